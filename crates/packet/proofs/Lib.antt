@@ -1,0 +1,4 @@
+pub mod Judge
+pub mod Marks
+pub mod Sums
+pub mod Writing

@@ -1,0 +1,4 @@
+pub mod Opcodes
+pub mod Packet
+pub mod Promises
+pub mod Refusals

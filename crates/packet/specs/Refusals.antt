@@ -1,0 +1,33 @@
+-- Document 01, 'Refusal numbers': the number of each refusal, and the NAK that answers it on the line.
+use Prim.Native.Nat.{ℕ}
+use Rattle.packet.specs.declared.Refusal.{Refusal}
+use Rattle.packet.specs.declared.Refusal.the-variants.{Length, Checksum, Cut, Source, Status, Opcode, Data, Beep, Setting, Barred, Start, Room}
+
+abbrev pub numberOf : Refusal → ℕ
+numberOf Length = 1
+numberOf Checksum = 2
+numberOf Cut = 3
+numberOf Source = 4
+numberOf Status = 5
+numberOf Opcode = 6
+numberOf Data = 7
+numberOf Beep = 8
+numberOf Setting = 9
+numberOf Barred = 10
+numberOf Start = 11
+numberOf Room = 13
+
+-- The cause byte: 1 resend, 2 bad context, 6 denied; 0 where nothing goes out.
+abbrev pub causeOf : Refusal → ℕ
+causeOf Length = 1
+causeOf Checksum = 1
+causeOf Cut = 1
+causeOf Source = 2
+causeOf Status = 2
+causeOf Opcode = 2
+causeOf Data = 2
+causeOf Beep = 6
+causeOf Setting = 6
+causeOf Barred = 6
+causeOf Start = 0
+causeOf Room = 0

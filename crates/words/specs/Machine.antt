@@ -1,0 +1,16 @@
+-- The machine vocabulary: what one step does, and a run of steps over a list of inputs.
+use mathlib.Core.List.{List, [], _∷_, _++_}
+
+-- The next state, and what was told on the way, in order.
+pub record Done (S O : Type 0) : Type 0 where
+  pub next : S
+  pub told : List O
+
+-- A step that tells these things and a run that goes on from its state: first what the step told.
+unfoldable pub after : {S O : Type 0} → List O → Done S O → Done S O
+after told d = record { next = d .next; told = told ++ d .told }
+
+-- The inputs one after the other.
+unfoldable pub through : {S I O : Type 0} → (S → I → Done S O) → S → List I → Done S O
+through step s [] = record { next = s; told = [] }
+through step s (i ∷ is) = after (step s i .told) (through step (step s i .next) is)
