@@ -4,13 +4,14 @@ use mathlib.Core.Path.{_≡_, refl, sym, ap, _∙_}
 use mathlib.Core.Bool.{Bool, true, false}
 use mathlib.Core.List.{List, [], _∷_, _++_}
 use native.Mathlib.Omega.{arith}
+use native.Mathlib.Decide.{decLt}
 use lib.Dec.{eqb}
 use lib.ListN.{length, getD, take, drop, set, length-set, length-take}
-use lib.Seq.{set-split, set-out}
+use lib.Seq.{set-split, set-out, set-set, getD-set-same}
 use borrow.Author.Tests.{eq-eqb, ne-eqb}
 use Rattle.words.specs.Lists.{both, sameBytes, Compared}
-use Rattle.words.proofs.Lists.{other-length, same-append, rest-part}
-use Rattle.packet.specs.Packet.{unmarked, equalUnmarked}
+use Rattle.words.proofs.Lists.{same-refl, same-equal, other-length, same-append, rest-part}
+use Rattle.packet.specs.Packet.{unmarked, marked, equalUnmarked}
 use Rattle.packet.specs.Promises.{Equal}
 
 -- A body of four bytes or more: what stands before the status, the status without its mark, what stands behind it.
@@ -44,3 +45,25 @@ module _ {a b : List ℕ} {r : Bool} (h : 4 ≤ length a) (e : length a ≡ leng
 
   pub equal-rest : {r′ : Bool} → r ≡ true → getD a 3 0 / 2 ≡ getD b 3 0 / 2 → Compared (take (length a - 4) (drop 4 a)) (take (length b - 4) (drop 4 b)) r′ → Equal a b r′
   equal-rest f q k = record { is = (rw (rest-part 4 a, rest-part 4 b) at (k .is)) ∙ sym (equal-split a b h e ∙ simp (sym (front .is) ∙ f, eq-eqb (getD a 3 0 / 2 * 2) (getD b 3 0 / 2 * 2) (omega arith))) }
+
+-- ---- the mark itself
+
+-- A marked copy is equal to its packet apart from the mark, and the comparison says so of no other.
+pub unmark-mark : (b : List ℕ) → unmarked (marked b) ≡ unmarked b
+unfolding unmarked marked
+unmark-mark b = by (decLt 3 (length b))
+  where
+    m : ℕ
+    m = getD b 3 0 / 2 * 2 + 1
+
+    by : Dec (3 < length b) → set (set b 3 m) 3 (getD (set b 3 m) 3 0 / 2 * 2) ≡ set b 3 (getD b 3 0 / 2 * 2)
+    by (yes h) = rw (set-set b 3 m (getD (set b 3 m) 3 0 / 2 * 2), getD-set-same b 3 m 0 h) (ap (set b 3) (omega arith))
+    by (no h) = rw (set-out b 3 m (omega arith)) (rw (set-out b 3 (getD b 3 0 / 2 * 2) (omega arith)) refl)
+
+pub equal-same : (a b : List ℕ) → unmarked a ≡ unmarked b → equalUnmarked a b ≡ true
+unfolding equalUnmarked
+equal-same a b e = rw e (same-refl (unmarked b))
+
+pub equal-only : (a b : List ℕ) → equalUnmarked a b ≡ true → unmarked a ≡ unmarked b
+unfolding equalUnmarked
+equal-only a b e = same-equal (unmarked a) (unmarked b) e

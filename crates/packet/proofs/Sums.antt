@@ -8,6 +8,7 @@ use native.Mathlib.Omega.{arith}
 use lib.ListN.{length, getD, take, drop}
 use lib.Seq.{take-suc, take-all, take-length, getD-take, getD-drop}
 use Rattle.words.specs.Lists.{Bytes}
+use Rattle.words.proofs.Lists.{bytes-head, bytes-tail}
 use Rattle.packet.specs.Packet.{sumOf}
 use Rattle.packet.specs.Promises.{Sum}
 
@@ -25,7 +26,7 @@ sum-take s i h = rw (add-one i, take-suc s i 0 h, sum-append (take i s) (getD s 
 pub sum-most : (s : List ℕ) → Bytes s → sumOf s ≤ 255 * length s
 unfolding sumOf
 sum-most [] b = omega arith
-sum-most (x ∷ xs) b = let h = sum-most xs (λ i. b (suc i)) in let k = b 0 in omega arith
+sum-most (x ∷ xs) b = let h = sum-most xs (bytes-tail b) in let k = bytes-head b in omega arith
 
 -- The first i bytes are summed.
 pub record Summing (s : List ℕ) (total i : ℕ) : Type 0 where

@@ -11,7 +11,7 @@ use lib.Dec.{eqb, eqb·suc-suc}
 use lib.ListN.{length, getD, take, drop, set, take-append-drop, length-append, length-take, length-drop, length-set}
 use lib.Seq.{set-split, take-at, drop-at, drop-append-add, take-length, drop-length, length-take-le, drop-drop, take-all, drop-cons, take-append-le, drop-append-le}
 use borrow.Author.Tests.{eq-eqb, ne-eqb, eqb-true}
-use Rattle.words.specs.Lists.{pick, both, over, overAt, Copied, sameBytes}
+use Rattle.words.specs.Lists.{pick, both, Bytes, over, overAt, Copied, sameBytes}
 
 -- ---- the choice by a test
 
@@ -30,6 +30,38 @@ both-false false b e = refl
 pub both-assoc : (a b d : Bool) → both a (both b d) ≡ both (both a b) d
 both-assoc true b d = refl
 both-assoc false b d = refl
+
+-- ---- bytes
+
+pub bytes-nil : Bytes []
+bytes-nil = record { each = λ i. omega arith }
+
+pub bytes-cons : {x : ℕ} {s : List ℕ} → x < 256 → Bytes s → Bytes (x ∷ s)
+bytes-cons {x} {s} h b = record { each = at }
+  where
+    at : (i : ℕ) → getD (x ∷ s) i 0 < 256
+    at zero = h
+    at (suc i) = b .each i
+
+pub bytes-head : {x : ℕ} {s : List ℕ} → Bytes (x ∷ s) → x < 256
+bytes-head b = b .each 0
+
+pub bytes-tail : {x : ℕ} {s : List ℕ} → Bytes (x ∷ s) → Bytes s
+bytes-tail b = record { each = λ i. b .each (suc i) }
+
+pub bytes-take : (n : ℕ) {s : List ℕ} → Bytes s → Bytes (take n s)
+bytes-take zero b = bytes-nil
+bytes-take (suc n) {s = []} b = bytes-nil
+bytes-take (suc n) {s = x ∷ xs} b = bytes-cons (bytes-head b) (bytes-take n (bytes-tail b))
+
+pub bytes-drop : (n : ℕ) {s : List ℕ} → Bytes s → Bytes (drop n s)
+bytes-drop zero b = b
+bytes-drop (suc n) {s = []} b = bytes-nil
+bytes-drop (suc n) {s = x ∷ xs} b = bytes-drop n (bytes-tail b)
+
+pub bytes-append : {s t : List ℕ} → Bytes s → Bytes t → Bytes (s ++ t)
+bytes-append {s = []} b c = c
+bytes-append {s = x ∷ xs} b c = bytes-cons (bytes-head b) (bytes-append (bytes-tail b) c)
 
 -- ---- rooms
 

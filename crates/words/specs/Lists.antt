@@ -19,8 +19,8 @@ abbrev pub either : Bool → Bool → Bool
 either a b = pick a true b
 
 -- Every element is a byte.
-abbrev pub Bytes : List ℕ → Type 0
-Bytes s = (i : ℕ) → getD s i 0 < 256
+pub record Bytes (s : List ℕ) : Type 0 where
+  pub each : (i : ℕ) → getD s i 0 < 256
 
 -- A byte widened: the same number, still below 256.
 pub record Wide (b r : ℕ) : Type 0 where
