@@ -15,6 +15,8 @@ use Rattle.words.specs.Lists.{pick, Bytes, Wide}
 use Rattle.words.proofs.Lists.{bytes-cons, bytes-take}
 use Rattle.packet.specs.Packet.{bodyOf, sumOf, checksumOf, seal, bodyIn, dataIn, headIn, checksumIn, checkOf}
 use Rattle.packet.specs.Promises.{Sum, Check}
+use Rattle.packet.specs.Refusals.{numberOf}
+use Rattle.packet.specs.declared.Refusal.{Refusal}
 use Rattle.packet.specs.declared.Refusal.the-variants.{Length, Checksum, Cut}
 use Rattle.packet.specs.declared.Head.{Head}
 use Rattle.packet.specs.declared.Checked.{Checked}
@@ -167,6 +169,20 @@ whole s bytes least enough sums =
     ∙ (rw (← high-is, ← low-is) (two-behind s n enough)))
     )
 
+module _ {s : List ℕ} {h : Head} (k : Accepted s h) where
+  -- The body alone has the same head.
+  pub accepted-head : headIn (bodyIn s) ≡ h
+  unfolding headIn bodyIn
+  accepted-head =
+      let n = getD s 0 0 in
+      let least = k .least in
+      rw (k .head, getD-take n s 0 0 (omega arith), getD-take n s 1 0 (omega arith), getD-take n s 2 0 (omega arith), getD-take n s 3 0 (omega arith)) refl
+
+  -- So many bytes of data.
+  pub accepted-data : length (dataIn s) + 4 ≡ h .length
+  unfolding headIn dataIn
+  accepted-data = let least = k .least in let enough = k .enough in rw (k .head) (simp (length-take, length-drop) (omega arith))
+
 module _ {s : List ℕ} {h : Head} (bytes : Bytes s) (k : Accepted s h) where
   pub accepted-body : Body (bodyIn s)
   unfolding bodyIn
@@ -188,16 +204,11 @@ module _ {s : List ℕ} {h : Head} (bytes : Bytes s) (k : Accepted s h) where
   unfolding headIn
   accepted-layout = rw (k .head) (whole s bytes (k .least) (k .enough) (k .sums))
 
-  -- So many bytes of data.
-  pub accepted-data : length (dataIn s) + 4 ≡ h .length
-  unfolding headIn dataIn
-  accepted-data = let least = k .least in let enough = k .enough in rw (k .head) (simp (length-take, length-drop) (omega arith))
-
   -- The packet's own bytes: what building would write from its fields.
   pub accepted-front : take (h .length + 2) s ≡ seal (bodyOf (h .opcode) (h .source) (h .status) (dataIn s))
   accepted-front =
       let packet : List ℕ = seal (bodyOf (h .opcode) (h .source) (h .status) (dataIn s)) in
-      let size = accepted-data in
+      let size = accepted-data k in
       let long : length packet ≡ h .length + 2 =
       length-seal (bodyOf (h .opcode) (h .source) (h .status) (dataIn s)) ∙ rw (length-body (h .opcode) (h .source) (h .status) (dataIn s)) (omega arith) in
       ap (take (h .length + 2)) accepted-layout ∙ take-at packet (drop (h .length + 2) s) (h .length + 2) long
@@ -254,11 +265,11 @@ none-cut : (s : List ℕ) → length s ≡ 0 → checkOf s ≡ Refused Cut
 unfolding checkOf
 none-cut s e = simp (eq-eqb (length s) 0 e)
 
-some-first : (s : List ℕ) → 4 ≤ getD s 0 0 → length s ≡ 0 → ⊥
+pub some-first : (s : List ℕ) → 4 ≤ getD s 0 0 → length s ≡ 0 → ⊥
 some-first [] h e = omega arith
 some-first (x ∷ xs) h e = omega arith
 
-few-cut : (s : List ℕ) → 4 ≤ getD s 0 0 → length s < getD s 0 0 + 2 → checkOf s ≡ Refused Cut
+pub few-cut : (s : List ℕ) → 4 ≤ getD s 0 0 → length s < getD s 0 0 + 2 → checkOf s ≡ Refused Cut
 unfolding checkOf
 few-cut s least h = simp (ne-eqb (length s) 0 (some-first s least), le-ltb (getD s 0 0) 4 least, lt-ltb (length s) (getD s 0 0 + 2) h)
 
@@ -274,3 +285,19 @@ check-front s rest h = by (decLe 4 (getD s 0 0)) (decLe (getD s 0 0 + 2) (length
         let long = length-append s rest in
         let same : getD (s ++ rest) 0 0 ≡ getD s 0 0 = List·getD-append s rest 0 0 (omega arith) in
         low-first (s ++ rest) (λ e. some (omega arith)) (rw same (omega arith)) ∙ sym (low-first s some (omega arith))
+
+-- ---- what is too short
+
+cut-by : (s : List ℕ) (x : Refusal) (a b d e : Bool) → eqb (length s) 0 ≡ a → ltb (length s) (getD s 0 0 + 2) ≡ d →
+    pick a (Refused Cut) (pick b (Refused Length) (pick d (Refused Cut) (pick e (Packet (headIn s)) (Refused Checksum)))) ≡ Refused x → numberOf x ≡ 3 →
+    length s < getD s 0 0 + 2
+cut-by s x true b d e p q f n = let z = eqb-true (length s) 0 p in omega arith
+cut-by s x false true d e p q f n = absurd (let z : Length ≡ x = cc in let y : 1 ≡ 3 = ap numberOf z ∙ n in omega arith)
+cut-by s x false false true e p q f n = ltb-true (length s) (getD s 0 0 + 2) q
+cut-by s x false false false true p q f n = absurd (let z : _≡_ {A = ℕ} 0 1 = cc in omega arith)
+cut-by s x false false false false p q f n = absurd (let z : Checksum ≡ x = cc in let y : 2 ≡ 3 = ap numberOf z ∙ n in omega arith)
+
+-- Number 3 is said only where bytes are missing.
+pub cut-short : (s : List ℕ) {x : Refusal} → checkOf s ≡ Refused x → numberOf x ≡ 3 → length s < getD s 0 0 + 2
+unfolding checkOf
+cut-short s {x} f n = cut-by s x (eqb (length s) 0) (ltb (getD s 0 0) 4) (ltb (length s) (getD s 0 0 + 2)) (eqb (checksumIn s) (checksumOf (bodyIn s))) refl refl f n

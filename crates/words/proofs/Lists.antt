@@ -137,6 +137,12 @@ pub set-overAt : (room : List ℕ) (i x : ℕ) → i < length room → set room 
 unfolding over overAt
 set-overAt room i x h = set-split room i x h ∙ ap (λ (r : List ℕ). take i room ++ x ∷ r) (ap (λ (n : ℕ). drop n room) (sym (add-one i)) ∙ sym (drop-drop 1 i room))
 
+pub set-over : (room : List ℕ) (i x : ℕ) → i < length room → set room i x ≡ over (take i room ++ (x ∷ [])) room
+unfolding over
+set-over room i x h =
+    let long : length (take i room ++ (x ∷ [])) ≡ suc i = simp (length-append, length-take) (omega arith) in
+    set-split room i x h ∙ rw (long, append-assoc) refl
+
 -- ---- the comparison
 
 pub same-refl : (s : List ℕ) → sameBytes s s ≡ true

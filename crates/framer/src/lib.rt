@@ -1,0 +1,139 @@
+// The framer: bytes and gaps of a line, one event at a time, into packets and refusals.
+use packet::Checked;
+use packet::Head;
+use packet::Refusal;
+ghost use Prim.Native.Nat.{_≤_};
+ghost use lib.ListN.{length};
+ghost use Rattle.framer.specs.Promises.{Idle, Begun, Gap, Unfinished, Frames};
+
+// A packet of the greatest length, its checksum with it.
+pub const LINE: usize = 257;
+
+// What happens on a line. A message gap is also a character gap.
+pub enum Event {
+    Byte(u8),
+    CharacterGap,
+    MessageGap,
+}
+
+// How many bytes of the packet begun stand in the line buffer, and whether all bytes are ignored until the next gap.
+pub struct Framer {
+    pub count: usize,
+    pub deaf: bool,
+}
+
+// What an event ended: nothing, a packet that stands at the front of the line buffer, or a refusal.
+pub enum Found {
+    Nothing,
+    Packet(Head),
+    Refused(Refusal),
+}
+
+pub struct Framed {
+    pub framer: Framer,
+    pub found: Found,
+}
+
+// A framer with nothing begun.
+pub fn idle() -> Framer
+    ensures { λ r. ⌜ Idle r ⌝ }
+{
+    Framer {
+        count: 0,
+        deaf: false,
+    }
+}
+
+// One event. The line buffer has 257 bytes; with fewer the event is not taken.
+pub fn hear(framer: Framer, line: &mut [u8], event: Event) -> Framed
+    ensures { λ r. ⌜ Frames framer (now (line .entry)) event r (now (line .exit)) ⌝ }
+{
+    if line.len() < LINE {
+        return Framed {
+            framer,
+            found: Found::Refused(Refusal::Room),
+        };
+    }
+    match event {
+        Event::Byte(b) => byte(framer, line, b),
+        Event::CharacterGap => gap(framer),
+        Event::MessageGap => gap(framer),
+    }
+}
+
+// The bytes begun. A count that the line buffer cannot have is 0.
+fn begun(framer: Framer) -> usize
+    ensures { λ r. ⌜ Begun framer r ⌝ }
+{
+    if framer.count <= 256 {
+        return framer.count;
+    }
+    0
+}
+
+// A gap ends the packet begun.
+fn gap(framer: Framer) -> Framed
+    ensures { λ r. ⌜ Gap framer r ⌝ }
+{
+    if framer.deaf {
+        return Framed {
+            framer: idle(),
+            found: Found::Nothing,
+        };
+    }
+    if begun(framer) == 0 {
+        return Framed {
+            framer: idle(),
+            found: Found::Nothing,
+        };
+    }
+    Framed {
+        framer: idle(),
+        found: Found::Refused(Refusal::Cut),
+    }
+}
+
+// A byte is judged with those before it.
+fn byte(framer: Framer, line: &mut [u8], b: u8) -> Framed
+    requires { ⌜ 257 ≤ length (now line) ⌝ }
+    ensures { λ r. ⌜ Frames framer (now (line .entry)) (Event.Byte b) r (now (line .exit)) ⌝ }
+{
+    if framer.deaf {
+        return Framed {
+            framer: Framer {
+                count: 0,
+                deaf: true,
+            },
+            found: Found::Nothing,
+        };
+    }
+    let at = begun(framer);
+    line[at] = b;
+    let count = at + 1;
+    match packet::check(&line[..count]) {
+        Checked::Packet(head) => Framed {
+            framer: idle(),
+            found: Found::Packet(head),
+        },
+        Checked::Refused(refusal) => unfinished(refusal, count),
+    }
+}
+
+// Too few bytes: the framer goes on. Any other refusal makes it deaf.
+fn unfinished(refusal: Refusal, count: usize) -> Framed
+    ensures { λ r. ⌜ Unfinished refusal count r ⌝ }
+{
+    if packet::number(refusal) == 3 {
+        return Framed {
+            framer: Framer { count, deaf: false },
+            found: Found::Nothing,
+        };
+    }
+    Framed {
+        framer: Framer {
+            count: 0,
+            deaf: true,
+        },
+        found: Found::Refused(refusal),
+    }
+}
