@@ -1,3 +1,4 @@
 pub mod Behind
 pub mod Framer
+pub mod Halves
 pub mod Promises

@@ -3,11 +3,15 @@ use packet::Checked;
 use packet::Head;
 use packet::Refusal;
 ghost use Prim.Native.Nat.{_≤_};
+ghost use mathlib.Core.Path.{_≡_};
 ghost use lib.ListN.{length};
+ghost use Rattle.framer.specs.Halves.{IdleHalves, Listens, Received, Kept, AcceptsLast, Place, Last};
 ghost use Rattle.framer.specs.Promises.{Idle, Begun, Gap, Unfinished, Frames};
 
 // A packet of the greatest length, its checksum with it.
 pub const LINE: usize = 257;
+// Two of them: one receives, the last accepted packet stays in the other.
+pub const HALVES: usize = 2 * LINE;
 
 // What happens on a line. A message gap is also a character gap.
 pub enum Event {
@@ -136,4 +140,108 @@ fn unfinished(refusal: Refusal, count: usize) -> Framed
         },
         found: Found::Refused(refusal),
     }
+}
+
+// A framer over two halves of a line buffer: which half receives, and how long the last accepted packet in the other is.
+pub struct Halves {
+    pub framer: Framer,
+    pub second: bool,
+    pub last: usize,
+}
+
+pub struct Listened {
+    pub halves: Halves,
+    pub found: Found,
+}
+
+// Nothing begun, and no packet accepted.
+pub fn idle_halves() -> Halves
+    ensures { λ r. ⌜ IdleHalves r ⌝ }
+{
+    Halves {
+        framer: idle(),
+        second: false,
+        last: 0,
+    }
+}
+
+// One event, in the half that receives.
+pub fn listen(halves: Halves, buffer: &mut [u8; HALVES], event: Event) -> Listened
+    ensures { λ r. ⌜ Listens halves (now (buffer .entry)) event r (now (buffer .exit)) ⌝ }
+{
+    listen_in(halves, buffer, event)
+}
+
+fn listen_in(halves: Halves, buffer: &mut [u8], event: Event) -> Listened
+    requires { ⌜ length (now buffer) ≡ 514 ⌝ }
+    ensures { λ r. ⌜ Listens halves (now (buffer .entry)) event r (now (buffer .exit)) ⌝ }
+{
+    let from = place(halves.second);
+    let end = from + LINE;
+    let framed = hear(halves.framer, &mut buffer[from..end], event);
+    let framer = framed.framer;
+    let found = framed.found;
+    Listened {
+        halves: Halves {
+            framer,
+            second: halves.second,
+            last: last(halves),
+        },
+        found,
+    }
+}
+
+// The first n bytes of the half that receives.
+pub fn received(halves: Halves, buffer: &[u8; HALVES], n: usize) -> &[u8]
+    ensures { λ r. ⌜ Received halves (now (buffer .entry)) n (now r) ⌝ }
+{
+    let from = place(halves.second);
+    let whole = &buffer[..];
+    if n <= LINE {
+        let end = from + n;
+        return &whole[from..end];
+    }
+    &whole[..0]
+}
+
+// The last accepted packet.
+pub fn kept(halves: Halves, buffer: &[u8; HALVES]) -> &[u8]
+    ensures { λ r. ⌜ Kept halves (now (buffer .entry)) (now r) ⌝ }
+{
+    let from = place(!halves.second);
+    let end = from + last(halves);
+    let whole = &buffer[..];
+    &whole[from..end]
+}
+
+// A packet of n bytes is accepted: it stays, and the other half receives.
+pub fn accept(halves: Halves, n: usize) -> Halves
+    ensures { λ r. ⌜ AcceptsLast halves n r ⌝ }
+{
+    let framer = halves.framer;
+    Halves {
+        framer,
+        second: !halves.second,
+        last: n,
+    }
+}
+
+// Where a half starts.
+fn place(second: bool) -> usize
+    ensures { λ r. ⌜ Place second r ⌝ }
+{
+    if second {
+        return LINE;
+    }
+    0
+}
+
+// How many bytes the last accepted packet has; what it cannot have is none.
+fn last(halves: Halves) -> usize
+    ensures { λ r. ⌜ Last halves r ⌝ }
+{
+    if halves.last <= 255 {
+        return halves.last;
+    }
+    0
 }

@@ -1,18 +1,19 @@
 -- The comparison apart from the resend mark, taken apart where the code looks. Assumes nothing.
-use Prim.Native.Nat.{ℕ, suc, _+_, _-_, _*_, _/_, _≤_, _<_}
+use Prim.Native.Nat.{ℕ, suc, _+_, _-_, _*_, _/_, _%_, _≤_, _<_}
 use mathlib.Core.Path.{_≡_, refl, sym, ap, _∙_}
 use mathlib.Core.Bool.{Bool, true, false}
 use mathlib.Core.List.{List, [], _∷_, _++_}
 use native.Mathlib.Omega.{arith}
 use native.Mathlib.Decide.{decLt}
 use lib.Dec.{eqb}
-use lib.ListN.{length, getD, take, drop, set, length-set, length-take}
+use lib.ListN.{length, getD, take, drop, set, length-set, length-take, List·getD-eq-default}
 use lib.Seq.{set-split, set-out, set-set, getD-set-same}
 use borrow.Author.Tests.{eq-eqb, ne-eqb}
 use Rattle.words.specs.Lists.{both, sameBytes, Compared}
 use Rattle.words.proofs.Lists.{same-refl, same-equal, other-length, same-append, rest-part}
-use Rattle.packet.specs.Packet.{unmarked, marked, equalUnmarked}
-use Rattle.packet.specs.Promises.{Equal}
+use Rattle.packet.specs.Packet.{unmarked, marked, equalUnmarked, resentEqual, isAnswer}
+use Rattle.packet.specs.Promises.{Equal, Resent, IsAnswer}
+use Rattle.packet.specs.Opcodes.{cmdAck, cmdNak}
 
 -- A body of four bytes or more: what stands before the status, the status without its mark, what stands behind it.
 pub unmarked-split : (b : List ℕ) → 4 ≤ length b → unmarked b ≡ take 3 b ++ (getD b 3 0 / 2 * 2 ∷ drop 4 b)
@@ -67,3 +68,29 @@ equal-same a b e = rw e (same-refl (unmarked b))
 pub equal-only : (a b : List ℕ) → equalUnmarked a b ≡ true → unmarked a ≡ unmarked b
 unfolding equalUnmarked
 equal-only a b e = same-equal (unmarked a) (unmarked b) e
+
+-- ---- a resent equal
+
+pub resent-short : {last body : List ℕ} → length body < 4 → Resent last body false
+unfolding resentEqual
+resent-short {last} {body} h =
+    let e : getD body 3 0 ≡ 0 = List·getD-eq-default body 0 {n = 3} (omega arith) in
+    record { is = simp (ne-eqb (getD body 3 0 % 2) 1 (λ q. let z : getD body 3 0 % 2 ≡ 0 = rw e refl in omega arith)) }
+
+pub resent-unmarked : {last body : List ℕ} → (getD body 3 0 % 2 ≡ 1 → ⊥) → Resent last body false
+unfolding resentEqual
+resent-unmarked {last} {body} h = record { is = simp (ne-eqb (getD body 3 0 % 2) 1 h) }
+
+pub resent-marked : {last body : List ℕ} {r : Bool} → getD body 3 0 % 2 ≡ 1 → Equal last body r → Resent last body r
+unfolding resentEqual equalUnmarked
+resent-marked {last} {body} e k = record { is = k .is ∙ sym (simp (eq-eqb (getD body 3 0 % 2) 1 e)) }
+
+-- ---- the opcode of an answer
+
+pub answer-ack : {o : ℕ} → o ≡ cmdAck → IsAnswer o true
+unfolding isAnswer
+answer-ack {o} e = record { is = simp (eq-eqb o cmdAck e) }
+
+pub answer-other : {o : ℕ} → (o ≡ cmdAck → ⊥) → IsAnswer o (eqb o cmdNak)
+unfolding isAnswer
+answer-other {o} h = record { is = simp (ne-eqb o cmdAck h) }

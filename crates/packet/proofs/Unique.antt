@@ -9,7 +9,7 @@ use Rattle.packet.specs.declared.Checked.{Checked}
 use Rattle.packet.specs.declared.Built.{Built}
 use Rattle.packet.specs.declared.Reply.{Reply}
 use Rattle.packet.specs.Packet.{written}
-use Rattle.packet.specs.Promises.{Number, Cause, Check, DataPart, Allowed, AllowedSource, Build, Fill, Answer, Equal}
+use Rattle.packet.specs.Promises.{Number, Cause, Check, DataPart, Allowed, AllowedSource, Build, Fill, Answer, Equal, Resent, IsAnswer}
 
 pub number-unique : {x : Refusal} {r r′ : ℕ} → Number x r → Number x r′ → r ≡ r′
 number-unique p q = p .is ∙ sym (q .is)
@@ -31,6 +31,12 @@ source-allowed-unique p q = p .is ∙ sym (q .is)
 
 pub equal-unmarked-unique : {a b : List ℕ} {r r′ : Bool} → Equal a b r → Equal a b r′ → r ≡ r′
 equal-unmarked-unique p q = p .is ∙ sym (q .is)
+
+pub resent-equal-unique : {last body : List ℕ} {r r′ : Bool} → Resent last body r → Resent last body r′ → r ≡ r′
+resent-equal-unique p q = p .is ∙ sym (q .is)
+
+pub is-answer-unique : {o : ℕ} {r r′ : Bool} → IsAnswer o r → IsAnswer o r′ → r ≡ r′
+is-answer-unique p q = p .is ∙ sym (q .is)
 
 -- What is written follows from the answer, for the three calls that write.
 written-unique : {r r′ : Built} {room₁ room₂ : List ℕ} (room packet : List ℕ) → r ≡ r′ → room₁ ≡ over (written r packet) room → room₂ ≡ over (written r′ packet) room → room₁ ≡ room₂

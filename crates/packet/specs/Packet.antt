@@ -108,3 +108,11 @@ marked body = set body 3 (getD body 3 0 / 2 * 2 + 1)
 
 unfoldable pub equalUnmarked : List ℕ → List ℕ → Bool
 equalUnmarked a b = sameBytes (unmarked a) (unmarked b)
+
+-- A resent equal of the last accepted packet, whose body without its mark is `last` (no bytes: none): the resend mark, and equal apart from it.
+unfoldable pub resentEqual : List ℕ → List ℕ → Bool
+resentEqual last body = both (eqb (resendBit (getD body 3 0)) 1) (sameBytes last (unmarked body))
+
+-- CMD_ACK and CMD_NAK are never refused or answered, right or wrong.
+unfoldable pub isAnswer : ℕ → Bool
+isAnswer opcode = either (eqb opcode cmdAck) (eqb opcode cmdNak)

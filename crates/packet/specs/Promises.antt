@@ -9,7 +9,7 @@ use Rattle.packet.specs.declared.Refusal.{Refusal}
 use Rattle.packet.specs.declared.Checked.{Checked}
 use Rattle.packet.specs.declared.Built.{Built}
 use Rattle.packet.specs.declared.Reply.{Reply}
-use Rattle.packet.specs.Packet.{bodyOf, sumOf, seal, dataIn, checkOf, statusAllowed, sourceAllowed, fieldsOf, buildOf, written, replyData, replyOpcode, replyBody, equalUnmarked}
+use Rattle.packet.specs.Packet.{bodyOf, sumOf, seal, dataIn, checkOf, statusAllowed, sourceAllowed, fieldsOf, buildOf, written, replyData, replyOpcode, replyBody, unmarked, equalUnmarked, resentEqual, isAnswer}
 use Rattle.packet.specs.Refusals.{numberOf, causeOf}
 
 pub record Number (refusal : Refusal) (r : ℕ) : Type 0 where
@@ -61,3 +61,9 @@ pub record Answer (room : List ℕ) (source : ℕ) (reply : Reply) (r : Built) (
 
 pub record Equal (a b : List ℕ) (r : Bool) : Type 0 where
   pub is : r ≡ equalUnmarked a b
+
+pub record Resent (last body : List ℕ) (r : Bool) : Type 0 where
+  pub is : r ≡ resentEqual (unmarked last) body
+
+pub record IsAnswer (opcode : ℕ) (r : Bool) : Type 0 where
+  pub is : r ≡ isAnswer opcode

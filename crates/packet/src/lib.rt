@@ -2,7 +2,7 @@
 use words::wide;
 ghost use Prim.Native.Nat.{_+_, _≤_};
 ghost use lib.ListN.{length};
-ghost use Rattle.packet.specs.Promises.{Number, Cause, Sum, Check, DataPart, Allowed, AllowedSource, Fields, Headed, Sealed, Build, Fill, Answer, Equal};
+ghost use Rattle.packet.specs.Promises.{Number, Cause, Sum, Check, DataPart, Allowed, AllowedSource, Fields, Headed, Sealed, Build, Fill, Answer, Equal, Resent, IsAnswer};
 
 // The two sources.
 pub const HOST: u8 = 4;
@@ -328,4 +328,27 @@ pub fn equal_unmarked(a: &[u8], b: &[u8]) -> bool
         }
     }
     false
+}
+
+// Whether a body is marked and equal to the last accepted one apart from the mark.
+pub fn resent_equal(last: &[u8], body: &[u8]) -> bool
+    ensures { λ r. ⌜ Resent (now (last .entry)) (now (body .entry)) r ⌝ }
+{
+    if body.len() < 4 {
+        return false;
+    }
+    if body[3] % 2 == 1 {
+        return equal_unmarked(last, body);
+    }
+    false
+}
+
+// Whether this is the opcode of an answer.
+pub fn is_answer(opcode: u8) -> bool
+    ensures { λ r. ⌜ IsAnswer opcode r ⌝ }
+{
+    if opcode == CMD_ACK {
+        return true;
+    }
+    opcode == CMD_NAK
 }

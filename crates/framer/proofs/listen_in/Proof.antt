@@ -1,0 +1,46 @@
+-- `framer::listen_in` meets its contract: the receiving half is lent to `hear` and put back. Assumes nothing.
+use Rattle.framer.proofs.TwoHalves.{listens}
+use borrow.Author.Needs.{needs}
+use Rattle.framer.proofs.listen_in.Statement.{statement}
+use Rattle.framer.proofs.listen_in.Tie as tie
+
+place-requires : tie.Need-place-requires
+place-requires c κs = search needs
+
+add-end : tie.Need-add-end
+add-end c = search needs
+
+sub-hear : tie.Need-sub-hear
+sub-hear c = search needs
+
+part-hear-start : tie.Need-part-hear-start
+part-hear-start c = search needs
+
+part-hear-end : tie.Need-part-hear-end
+part-hear-end c = search needs
+
+hear-requires : tie.Need-hear-requires
+hear-requires c κs = search needs
+
+last-requires : tie.Need-last-requires
+last-requires c κs = search needs
+
+same-length : tie.Need-same-length
+same-length c = search needs
+
+returns : tie.Need-returns
+returns c = listens (c .before .before .before .before .before .before .place .ensures) (c .last .ensures) (c .before .before .before .before .hear .ensures)
+
+pub listen-in-spec : {M : Type 1} → statement M
+listen-in-spec =
+    tie.close
+    (tie.spec
+    place-requires
+    add-end
+    sub-hear
+    part-hear-start
+    part-hear-end
+    hear-requires
+    last-requires
+    same-length
+    returns)

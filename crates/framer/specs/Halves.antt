@@ -1,0 +1,81 @@
+-- The line buffer of an end that remembers its last accepted packet: two halves of 257 bytes. One half receives, and an accepted
+-- packet stays where it was received while the other half takes the next.
+use Prim.Native.Nat.{ℕ, _≤_}
+use mathlib.Core.Bool.{Bool, true, false, not}
+use mathlib.Core.List.{List, [], _++_}
+use mathlib.Core.Path.{_≡_}
+use lib.Dec.{leb}
+use lib.ListN.{length, take, drop}
+use Rattle.words.specs.Lists.{pick}
+use Rattle.framer.specs.Framer.{Line, hearing}
+use Rattle.framer.specs.Promises.{lineOf, controlOf, framedOf, lineAfter}
+use Rattle.framer.specs.declared.Event.{Event}
+use Rattle.framer.specs.declared.Halves.{Halves}
+use Rattle.framer.specs.declared.Listened.{Listened}
+
+-- Where a half starts, and its bytes.
+unfoldable pub placeOf : Bool → ℕ
+placeOf second = pick second 257 0
+
+unfoldable pub halfOf : Bool → List ℕ → List ℕ
+halfOf second buffer = take 257 (drop (placeOf second) buffer)
+
+-- Any control value is taken: a last packet longer than 255 bytes is none.
+unfoldable pub lastOf : Halves → ℕ
+lastOf h = pick (leb (h .last) 255) (h .last) 0
+
+-- What control value and buffer stand for: the line, and the last accepted packet's body (no bytes: none).
+unfoldable pub lineIn : Halves → List ℕ → Line
+lineIn h buffer = lineOf (h .framer) (halfOf (h .second) buffer)
+
+unfoldable pub keptIn : Halves → List ℕ → List ℕ
+keptIn h buffer = take (lastOf h) (drop (placeOf (not (h .second))) buffer)
+
+-- The n bytes that stand in the half that receives.
+unfoldable pub receivedIn : Halves → List ℕ → ℕ → List ℕ
+receivedIn h buffer n = pick (leb n 257) (take n (drop (placeOf (h .second)) buffer)) []
+
+abbrev pub idleHalves : Halves
+idleHalves = record { framer = controlOf (hearing []); second = false; last = 0 }
+
+-- After an event: the framer's control value, and the buffer with the receiving half put back.
+unfoldable pub listenedOf : Halves → List ℕ → Event → Listened
+listenedOf h buffer e =
+    record {
+      halves = record { framer = framedOf (h .framer) (halfOf (h .second) buffer) e .framer; second = h .second; last = lastOf h };
+      found = framedOf (h .framer) (halfOf (h .second) buffer) e .found;
+    }
+
+unfoldable pub bufferAfter : Halves → List ℕ → Event → List ℕ
+bufferAfter h buffer e =
+    take (placeOf (h .second)) buffer ++ (lineAfter (h .framer) (halfOf (h .second) buffer) e ++ drop 257 (drop (placeOf (h .second)) buffer))
+
+-- After a packet of n bytes was accepted.
+abbrev pub acceptedOf : Halves → ℕ → Halves
+acceptedOf h n = record { framer = h .framer; second = not (h .second); last = n }
+
+-- ---- promises
+
+pub record IdleHalves (r : Halves) : Type 0 where
+  pub is : r ≡ idleHalves
+
+pub record Listens (h : Halves) (buffer : List ℕ) (e : Event) (r : Listened) (buffer′ : List ℕ) : Type 0 where
+  pub is : r ≡ listenedOf h buffer e
+  pub buffer-is : buffer′ ≡ bufferAfter h buffer e
+
+pub record Received (h : Halves) (buffer : List ℕ) (n : ℕ) (r : List ℕ) : Type 0 where
+  pub is : r ≡ receivedIn h buffer n
+
+pub record Kept (h : Halves) (buffer r : List ℕ) : Type 0 where
+  pub is : r ≡ keptIn h buffer
+
+pub record AcceptsLast (h : Halves) (n : ℕ) (r : Halves) : Type 0 where
+  pub is : r ≡ acceptedOf h n
+
+pub record Place (second : Bool) (r : ℕ) : Type 0 where
+  pub is : r ≡ placeOf second
+  pub most : r ≤ 257
+
+pub record Last (h : Halves) (r : ℕ) : Type 0 where
+  pub is : r ≡ lastOf h
+  pub most : r ≤ 255

@@ -1,0 +1,141 @@
+-- One law for each answer of the small functions around the joining: tests, the control value, and what goes out. Assumes nothing.
+use Prim.Native.Nat.{ℕ, _≤_, _<_}
+use mathlib.Core.Path.{_≡_, refl, sym, _∙_}
+use mathlib.Core.Bool.{Bool, true, false, not}
+use mathlib.Core.List.{List, []}
+use native.Mathlib.Omega.{arith}
+use lib.Dec.{eqb}
+use lib.ListN.{length}
+use borrow.Author.Tests.{eq-eqb, ne-eqb, le-leb, lt-leb}
+use Rattle.words.specs.Lists.{over}
+use Rattle.packet.specs.Opcodes.{host, cmdAck, cmdNak}
+use Rattle.packet.specs.Packet.{bodyOf, seal, statusAllowed, sourceAllowed, fieldsOf, buildOf, written, replyData, replyOpcode, replyBody}
+use Rattle.packet.specs.Refusals.{causeOf}
+use Rattle.packet.specs.Promises.{Answer, Cause}
+use Rattle.packet.specs.declared.Refusal.{Refusal}
+use Rattle.packet.specs.declared.Refusal.the-variants as refusal
+use Rattle.packet.specs.declared.Reply.{Reply}
+use Rattle.packet.specs.declared.Reply.the-variants.{Ack, Nak}
+use Rattle.packet.specs.declared.Built.{Built}
+use Rattle.packet.specs.declared.Built.the-variants.{Written, Refused}
+use Rattle.packet.proofs.Writing.{enough}
+use Rattle.framer.specs.Promises.{Idle}
+use Rattle.framer.specs.declared.Framer.{Framer}
+use Rattle.hub.specs.Hub.{isAnswer, nakBytes}
+use Rattle.hub.specs.Promises.{Closed, SwitchedOn, Gatherings, soundOf, Place, placeOf, Last, lastOf, Within, OtherType, IsAnswer, Bars, Accepts, Stays, Settles, Writes, nameBytes}
+use Rattle.hub.specs.declared.Gathering.{Gathering}
+use Rattle.hub.specs.declared.Hub.{Hub}
+use Rattle.hub.specs.declared.Told.{Told}
+use Rattle.hub.specs.declared.Told.the-variants as told
+use Rattle.hub.specs.declared.Joined.{Joined}
+
+-- ---- tests
+
+pub answer-ack : {o : ℕ} → o ≡ cmdAck → IsAnswer o true
+unfolding isAnswer
+answer-ack {o} e = record { is = simp (eq-eqb o cmdAck e) }
+
+pub answer-other : {o : ℕ} → (o ≡ cmdAck → ⊥) → IsAnswer o (eqb o cmdNak)
+unfolding isAnswer
+answer-other {o} h = record { is = simp (ne-eqb o cmdAck h) }
+
+pub last-kept : {hub : Hub} → hub .last ≤ 255 → Last hub (hub .last)
+unfolding lastOf
+last-kept {hub} h = record { is = simp (le-leb (hub .last) 255 h); most = h }
+
+pub last-none : {hub : Hub} → 255 < hub .last → Last hub 0
+unfolding lastOf
+last-none {hub} h = record { is = simp (lt-leb (hub .last) 255 h); most = omega arith }
+
+pub place-second : {second : Bool} → second ≡ true → Place second 257
+unfolding placeOf
+place-second e = record { is = simp e; inside = omega arith }
+
+pub place-first : {second : Bool} → second ≡ false → Place second 0
+unfolding placeOf
+place-first e = record { is = simp e; inside = omega arith }
+
+pub within-count : {n : ℕ} → n ≤ 4096 → Within n n
+within-count {n} h = record { is = simp (le-leb n 4096 h); most = h }
+
+pub within-none : {n : ℕ} → 4096 < n → Within n 0
+within-none {n} h = record { is = simp (lt-leb n 4096 h); most = omega arith }
+
+pub other-begun : {g : Gathering} {code : ℕ} → g .begun ≡ true → OtherType g code (not (eqb (g .code) code))
+other-begun e = record { is = simp e }
+
+-- ---- the control value
+
+pub bars : {g : Gathering} → Closed true g → Bars (record { gathering = g; told = told.Refused refusal.Barred })
+bars k = record { is = rw (k .is) refl }
+
+pub switched : {f : Framer} {g : Gathering} → Idle f → Closed false g → SwitchedOn (record { framer = f; second = false; last = 0; gathering = g })
+switched i k = record { is = rw (i .is, k .is) refl }
+
+pub sound-begun : {g : Gathering} {n : ℕ} → g .begun ≡ true → Within (g .count) n → Gatherings g (record { barred = g .barred; begun = true; code = g .code; count = n })
+unfolding soundOf
+sound-begun e w =
+    record {
+      is = simp (e, w .is);
+      sound = record { few = w .most; closed = λ f. absurd (let z : _≡_ {A = ℕ} 0 1 = cc in omega arith) };
+    }
+
+pub sound-closed : {g r : Gathering} → g .begun ≡ false → Closed (g .barred) r → Gatherings g r
+unfolding soundOf
+sound-closed e k = record { is = k .is ∙ simp e; sound = rw (k .is) (record { few = omega arith; closed = λ f. (refl, refl) }) }
+
+pub stays : {hub : Hub} {f : Framer} {t : Told} {n : ℕ} {g : Gathering} → Gatherings (hub .gathering) g → Last hub n →
+    Stays hub f t (record { hub = record { framer = f; second = hub .second; last = n; gathering = g }; told = t })
+stays s l = record { is = rw (s .is, l .is) refl }
+
+module _ {hub : Hub} {f : Framer} {n : ℕ} {joined : Joined} {a : Bool} (p : Accepts (joined .told) a) where
+  pub settles-accepted : a ≡ true →
+      Settles hub f n joined (record { hub = record { framer = f; second = not (hub .second); last = n; gathering = joined .gathering }; told = joined .told })
+  settles-accepted e = record { is = simp (sym (p .is) ∙ e) }
+
+  pub settles-other : {m : ℕ} → a ≡ false → Last hub m →
+      Settles hub f n joined (record { hub = record { framer = f; second = hub .second; last = m; gathering = joined .gathering }; told = joined .told })
+  settles-other e l = record { is = simp (sym (p .is) ∙ e, l .is) }
+
+-- ---- what goes out
+
+-- With room enough a reply is never refused, and its length is the packet's.
+built-reply : (room : List ℕ) (y : Reply) → 7 ≤ length room → buildOf 7 room (replyOpcode y) host 0 (length (replyData y)) ≡ Written (length (seal (replyBody host y)))
+unfolding fieldsOf sourceAllowed statusAllowed seal replyBody replyOpcode replyData bodyOf
+built-reply room Ack h = enough 7 room cmdAck host 0 0 h
+built-reply room (Nak cause) h = enough 7 room cmdNak host 0 1 h
+
+module _ {room room′ : List ℕ} {y : Reply} {r : Built} (h : 7 ≤ length room) (k : Answer room host y r room′) where
+  pub says-written : {n : ℕ} → r ≡ Written n → Writes (seal (replyBody host y)) room n room′
+  unfolding written
+  says-written e =
+      let b = built-reply room y h in
+      let i = k .is in
+      record { is = cc; answer-is = rw e at (k .room-is) }
+
+  pub says-refused : {x : Refusal} → r ≡ Refused x → Writes (seal (replyBody host y)) room 0 room′
+  says-refused e =
+      let b = built-reply room y h in
+      let i = k .is in
+      absurd (let z : _≡_ {A = ℕ} 0 1 = cc in omega arith)
+
+nak-bytes : (cause : ℕ) → (cause ≡ 0 → ⊥) → nakBytes cause ≡ seal (replyBody host (Nak cause))
+unfolding nakBytes
+nak-bytes cause h = simp (ne-eqb cause 0 h)
+
+module _ {room : List ℕ} {x : Refusal} {cause : ℕ} (k : Cause x cause) where
+  pub refuses-silent : cause ≡ 0 → Writes (nakBytes (causeOf x)) room 0 room
+  unfolding nakBytes over
+  refuses-silent e =
+      let b : nakBytes (causeOf x) ≡ [] = simp (eq-eqb (causeOf x) 0 (sym (k .is) ∙ e)) in
+      rw b (record { is = refl; answer-is = refl })
+
+  pub refuses-nak : {room′ : List ℕ} {n : ℕ} → (cause ≡ 0 → ⊥) → Writes (seal (replyBody host (Nak cause))) room n room′ → Writes (nakBytes (causeOf x)) room n room′
+  refuses-nak h w = rw (← k .is) (rw (nak-bytes cause h) w)
+
+pub replies-nothing : {t : Told} {room : List ℕ} → t ≡ told.Nothing → Writes (nameBytes t) room 0 room
+unfolding over
+replies-nothing e = rw e (record { is = refl; answer-is = refl })
+
+pub replies : {t u : Told} {room room′ : List ℕ} {n : ℕ} → t ≡ u → Writes (nameBytes u) room n room′ → Writes (nameBytes t) room n room′
+replies e w = rw e w

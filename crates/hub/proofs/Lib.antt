@@ -1,0 +1,3 @@
+pub mod Control
+pub mod Hearing
+pub mod Joining

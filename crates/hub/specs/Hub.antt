@@ -1,0 +1,77 @@
+-- Document 01, the hub: what it does with each event, and what goes out.
+use Prim.Native.Nat.{ℕ}
+use mathlib.Core.Bool.{Bool, true, false}
+use mathlib.Core.List.{List, [], _∷_, _++_}
+use lib.Dec.{eqb}
+use lib.ListN.{length, getD}
+use Rattle.words.specs.Lists.{pick, either}
+use Rattle.words.specs.Machine.{Done}
+use Rattle.packet.specs.Opcodes.{host, reader, cmdAck, cmdNak, decodeData}
+use Rattle.packet.specs.Packet.{seal, dataIn, statusAllowed, replyBody}
+use Rattle.packet.specs.Refusals.{causeOf}
+use Rattle.packet.specs.declared.Refusal.{Refusal}
+use Rattle.packet.specs.declared.Refusal.the-variants.{Source, Status, Opcode, Data}
+use Rattle.packet.specs.declared.Reply.{Reply}
+use Rattle.packet.specs.declared.Reply.the-variants.{Ack, Nak}
+use Rattle.framer.specs.Framer.{Line, hearing, Heard, packet, refused as noPacket}
+use Rattle.framer.specs.Behind.{Behind, framed}
+use Rattle.framer.specs.declared.Event.{Event}
+use Rattle.framer.specs.declared.Event.the-variants.{Byte, CharacterGap, MessageGap}
+use Rattle.hub.specs.Joiner.{Gathered, none, Joiner, Output, added, repeated, handed, refused, joinStep}
+
+-- The hub is the joiner behind a framer.
+abbrev pub HubState : Type 0
+HubState = Behind Joiner
+
+-- Switched on: nothing begun, no bar, no packet accepted, nothing gathered.
+abbrev pub switchedOn : HubState
+switchedOn = record { line = hearing []; core = record { barred = false; last = []; gathered = none } }
+
+abbrev pub refuses : Joiner → Refusal → Done Joiner Output
+refuses j r = record { next = j; told = refused r ∷ [] }
+
+-- CMD_ACK and CMD_NAK, right or wrong, do nothing. Else 4 to 7 in rising order, then the joining.
+unfoldable pub isAnswer : ℕ → Bool
+isAnswer opcode = either (eqb opcode cmdAck) (eqb opcode cmdNak)
+
+unfoldable pub decodeStep : Joiner → List ℕ → Done Joiner Output
+decodeStep j body = pick (eqb (length (dataIn body)) 0) (refuses j Data) (joinStep j body)
+
+unfoldable pub packetStep : Joiner → List ℕ → Done Joiner Output
+packetStep j body =
+    pick (isAnswer (getD body 1 0)) (record { next = j; told = [] })
+    (pick (eqb (getD body 2 0) reader)
+    (pick (statusAllowed (getD body 1 0) (getD body 3 0))
+    (pick (eqb (getD body 1 0) decodeData) (decodeStep j body) (refuses j Opcode))
+    (refuses j Status))
+    (refuses j Source))
+
+-- What the framer tells: a packet, or a refusal of its own, which changes nothing here.
+unfoldable pub heardStep : Joiner → Heard → Done Joiner Output
+heardStep j (packet body) = packetStep j body
+heardStep j (noPacket r) = refuses j r
+
+-- A message gap gives its refusal 3 if one is due, then clears everything.
+unfoldable pub cleared : Event → HubState → HubState
+cleared (Byte b) hub = hub
+cleared CharacterGap hub = hub
+cleared MessageGap hub = switchedOn
+
+unfoldable pub hubStep : HubState → Event → Done HubState Output
+hubStep hub e = record { next = cleared e (framed heardStep hub e .next); told = framed heardStep hub e .told }
+
+-- What goes out for each: the answer's bytes, and the message that is handed out.
+unfoldable pub nakBytes : ℕ → List ℕ
+nakBytes cause = pick (eqb cause 0) [] (seal (replyBody host (Nak cause)))
+
+unfoldable pub answerBytes : Output → List ℕ
+answerBytes added = seal (replyBody host Ack)
+answerBytes repeated = seal (replyBody host Ack)
+answerBytes (handed t bytes) = seal (replyBody host Ack)
+answerBytes (refused r) = nakBytes (causeOf r)
+
+unfoldable pub messageBytes : Output → List ℕ
+messageBytes added = []
+messageBytes repeated = []
+messageBytes (handed t bytes) = bytes
+messageBytes (refused r) = []

@@ -1,0 +1,3 @@
+pub mod Hub
+pub mod Joiner
+pub mod Promises

@@ -1,0 +1,264 @@
+-- What the hub's call promises: what is told, the next state, the control value, and every byte of each lent buffer and room.
+use Prim.Native.Nat.{ℕ, _+_, _≤_}
+use mathlib.Core.Bool.{Bool, true, false, not}
+use mathlib.Core.List.{List, [], _∷_, _++_}
+use mathlib.Core.Path.{_≡_}
+use lib.Dec.{ltb, leb, eqb}
+use lib.ListN.{length, take, drop}
+use Rattle.words.specs.Lists.{pick, either, over, overAt}
+use Rattle.words.specs.Machine.{Done}
+use Rattle.packet.specs.Opcodes.{host}
+use Rattle.packet.specs.Packet.{unmarked, seal, replyBody}
+use Rattle.packet.specs.Refusals.{causeOf}
+use Rattle.packet.specs.declared.Reply.the-variants.{Ack, Nak}
+use Rattle.packet.specs.declared.Refusal.the-variants as refusal
+use Rattle.framer.specs.Framer.{Line, hearing}
+use Rattle.framer.specs.Behind.{Behind, framed}
+use Rattle.framer.specs.Promises.{lineOf, controlOf, framedOf, lineAfter}
+use Rattle.framer.specs.declared.Framer.{Framer}
+use Rattle.framer.specs.declared.Event.{Event}
+use Rattle.framer.specs.declared.Event.the-variants.{Byte, CharacterGap, MessageGap}
+use Rattle.hub.specs.Joiner.{Gathered, none, some, Joiner, Output, added, repeated, handed, refused, bytesOf, otherType, resentEqual, joinStep, adding, barring}
+use Rattle.hub.specs.Hub.{HubState, switchedOn, isAnswer, packetStep, heardStep, hubStep, nakBytes, answerBytes, messageBytes}
+use Rattle.hub.specs.declared.Gathering.{Gathering}
+use Rattle.hub.specs.declared.Hub.{Hub}
+use Rattle.hub.specs.declared.Told.{Told}
+use Rattle.hub.specs.declared.Told.the-variants as told
+use Rattle.hub.specs.declared.Joined.{Joined}
+use Rattle.hub.specs.declared.Stepped.{Stepped}
+use Rattle.hub.specs.declared.Answered.{Answered}
+
+-- ---- the answers that are enums
+
+-- What is told of one event, by name.
+unfoldable pub nameOf : Output → Told
+nameOf added = told.Added
+nameOf repeated = told.Repeated
+nameOf (handed code bytes) = told.Message code (length bytes)
+nameOf (refused r) = told.Refused r
+
+unfoldable pub toldOf : List Output → Told
+toldOf [] = told.Nothing
+toldOf (x ∷ xs) = nameOf x
+
+-- The bytes that go out for it, and the message that is handed out.
+unfoldable pub answerOf : List Output → List ℕ
+answerOf [] = []
+answerOf (x ∷ xs) = answerBytes x
+
+unfoldable pub messageOf : List Output → List ℕ
+messageOf [] = []
+messageOf (x ∷ xs) = messageBytes x
+
+-- ---- what control value and buffers stand for
+
+-- Any control value is taken: a count that the buffer cannot have is 0, and so is what belongs to no message begun.
+unfoldable pub soundOf : Gathering → Gathering
+soundOf g =
+    pick (g .begun) (record { barred = g .barred; begun = true; code = g .code; count = pick (leb (g .count) 4096) (g .count) 0 })
+    (record { barred = g .barred; begun = false; code = 0; count = 0 })
+
+pub record Sound (g : Gathering) : Type 0 where
+  pub few : g .count ≤ 4096
+  pub closed : g .begun ≡ false → (g .code ≡ 0) × (g .count ≡ 0)
+
+unfoldable pub gatheredOf : Gathering → List ℕ → Gathered
+gatheredOf g gather = pick (g .begun) (some (g .code) (take (g .count) gather)) none
+
+unfoldable pub joinerOf : Gathering → List ℕ → List ℕ → Joiner
+joinerOf g last gather = record { barred = g .barred; last = unmarked last; gathered = gatheredOf g gather }
+
+-- The control value of what is gathered.
+abbrev pub gatheringOf : Bool → Gathered → Gathering
+gatheringOf barred none = record { barred = barred; begun = false; code = 0; count = 0 }
+gatheringOf barred (some code bytes) = record { barred = barred; begun = true; code = code; count = length bytes }
+
+-- The line buffer has two halves of 257: one receives, the last accepted packet stays in the other.
+unfoldable pub placeOf : Bool → ℕ
+placeOf second = pick second 257 0
+
+unfoldable pub halfOf : Bool → List ℕ → List ℕ
+halfOf second line = take 257 (drop (placeOf second) line)
+
+unfoldable pub lastOf : Hub → ℕ
+lastOf hub = pick (leb (hub .last) 255) (hub .last) 0
+
+unfoldable pub lastIn : Hub → List ℕ → List ℕ
+lastIn hub line = take (lastOf hub) (drop (placeOf (not (hub .second))) line)
+
+unfoldable pub stateOf : Hub → List ℕ → List ℕ → HubState
+stateOf hub line gather = record { line = lineOf (hub .framer) (halfOf (hub .second) line); core = joinerOf (soundOf (hub .gathering)) (lastIn hub line) gather }
+
+abbrev pub offControl : Hub
+offControl = record { framer = controlOf (hearing []); second = false; last = 0; gathering = gatheringOf false none }
+
+-- ---- the control value and the line buffer afterwards
+
+-- A packet that was added or ended a message is the last accepted one, and stays where it was received.
+unfoldable pub accepts : List Output → Bool
+accepts [] = false
+accepts (added ∷ xs) = true
+accepts (repeated ∷ xs) = false
+accepts (handed code bytes ∷ xs) = true
+accepts (refused r ∷ xs) = false
+
+unfoldable pub controlAfter : Hub → List ℕ → Event → Done HubState Output → Hub
+controlAfter hub line e d =
+    record {
+      framer = framedOf (hub .framer) (halfOf (hub .second) line) e .framer;
+      second = pick (accepts (d .told)) (not (hub .second)) (hub .second);
+      last = length (d .next .core .last);
+      gathering = gatheringOf (d .next .core .barred) (d .next .core .gathered);
+    }
+
+unfoldable pub lineBack : Hub → List ℕ → Event → List ℕ
+lineBack hub line e =
+    take (placeOf (hub .second)) line
+    ++ (lineAfter (hub .framer) (halfOf (hub .second) line) e ++ drop 257 (drop (placeOf (hub .second)) line))
+
+-- A message gap clears the control value.
+abbrev pub clearedControl : Event → Hub → Hub
+clearedControl (Byte b) hub = hub
+clearedControl CharacterGap hub = hub
+clearedControl MessageGap hub = offControl
+
+-- ---- promises
+
+pub record Closed (barred : Bool) (r : Gathering) : Type 0 where
+  pub is : r ≡ gatheringOf barred none
+
+pub record SwitchedOn (r : Hub) : Type 0 where
+  pub is : r ≡ offControl
+
+-- Number 13 is tested first, and the event is then not taken: 7 bytes for answers, 4,096 for the message.
+unfoldable pub tooSmall : List ℕ → List ℕ → Bool
+tooSmall answer message = either (ltb (length answer) 7) (ltb (length message) 4096)
+
+pub record Hears (hub : Hub) (line gather answer message : List ℕ) (e : Event) (r : Answered) (line′ gather′ answer′ message′ : List ℕ) : Type 0 where
+  pub is :
+      r
+      ≡ pick (tooSmall answer message) (record { hub = hub; told = told.Refused refusal.Room; answer = 0 })
+      (record {
+        hub = clearedControl e (controlAfter hub line e (framed heardStep (stateOf hub line gather) e));
+        told = toldOf (hubStep (stateOf hub line gather) e .told);
+        answer = length (answerOf (hubStep (stateOf hub line gather) e .told));
+      })
+  pub next : stateOf (r .hub) line′ gather′ ≡ pick (tooSmall answer message) (stateOf hub line gather) (hubStep (stateOf hub line gather) e .next)
+  pub line-is : line′ ≡ pick (tooSmall answer message) line (lineBack hub line e)
+  pub gather-is : gather′ ≡ pick (tooSmall answer message) gather (over (bytesOf (framed heardStep (stateOf hub line gather) e .next .core .gathered)) gather)
+  pub answer-is : answer′ ≡ over (pick (tooSmall answer message) [] (answerOf (hubStep (stateOf hub line gather) e .told))) answer
+  pub message-is : message′ ≡ over (pick (tooSmall answer message) [] (messageOf (hubStep (stateOf hub line gather) e .told))) message
+
+-- ---- the functions inside, each against its own level of the definition
+
+pub record Gatherings (g r : Gathering) : Type 0 where
+  pub is : r ≡ soundOf g
+  pub sound : Sound r
+
+pub record Place (second : Bool) (r : ℕ) : Type 0 where
+  pub is : r ≡ placeOf second
+  pub inside : r + 257 ≤ 514
+
+pub record Last (hub : Hub) (r : ℕ) : Type 0 where
+  pub is : r ≡ lastOf hub
+  pub most : r ≤ 255
+
+pub record OtherType (g : Gathering) (code : ℕ) (r : Bool) : Type 0 where
+  pub is : r ≡ pick (g .begun) (not (eqb (g .code) code)) false
+
+pub record Resent (last body : List ℕ) (r : Bool) : Type 0 where
+  pub is : r ≡ resentEqual (unmarked last) body
+
+pub record IsAnswer (opcode : ℕ) (r : Bool) : Type 0 where
+  pub is : r ≡ isAnswer opcode
+
+-- What one step of the joiner, d, leaves in the control value, the gather buffer and the message room.
+pub record Joins (d : Done Joiner Output) (gather message : List ℕ) (r : Joined) (gather′ message′ : List ℕ) : Type 0 where
+  pub told-is : r .told ≡ toldOf (d .told)
+  pub gathering-is : r .gathering ≡ gatheringOf (d .next .barred) (d .next .gathered)
+  pub gather-is : gather′ ≡ over (bytesOf (d .next .gathered)) gather
+  pub message-is : message′ ≡ over (messageOf (d .told)) message
+
+-- The joining itself does not look at the last accepted packet.
+pub record Adds (g : Gathering) (body gather message : List ℕ) (r : Joined) (gather′ message′ : List ℕ) : Type 0 where
+  pub joins : (last : List ℕ) → Joins (adding (joinerOf g last gather) body) gather message r gather′ message′
+
+-- `at` bytes wait: a piece is put behind them, or both are handed out.
+pub record Keeps (code at : ℕ) (piece gather : List ℕ) (r : Joined) (gather′ : List ℕ) : Type 0 where
+  pub is : r ≡ record { gathering = record { barred = false; begun = true; code = code; count = at + length piece }; told = told.Added }
+  pub gather-is : gather′ ≡ overAt at piece gather
+
+pub record HandsOut (code at : ℕ) (piece gather message : List ℕ) (r : Joined) (message′ : List ℕ) : Type 0 where
+  pub is : r ≡ record { gathering = gatheringOf false none; told = told.Message code (at + length piece) }
+  pub message-is : message′ ≡ over (take at gather ++ piece) message
+
+pub record Bars (r : Joined) : Type 0 where
+  pub is : r ≡ record { gathering = gatheringOf true none; told = told.Refused refusal.Barred }
+
+pub record Unchanged (g : Gathering) (t : Told) (r : Joined) : Type 0 where
+  pub is : r ≡ record { gathering = g; told = t }
+
+pub record Within (count r : ℕ) : Type 0 where
+  pub is : r ≡ pick (leb count 4096) count 0
+  pub most : r ≤ 4096
+
+-- Which names of what is told mean that the packet was accepted.
+abbrev pub acceptsName : Told → Bool
+acceptsName told.Nothing = false
+acceptsName told.Added = true
+acceptsName told.Repeated = false
+acceptsName (told.Message code count) = true
+acceptsName (told.Refused r) = false
+
+pub record Accepts (t : Told) (r : Bool) : Type 0 where
+  pub is : r ≡ acceptsName t
+
+pub record Stays (hub : Hub) (f : Framer) (t : Told) (r : Stepped) : Type 0 where
+  pub is : r ≡ record { hub = record { framer = f; second = hub .second; last = lastOf hub; gathering = soundOf (hub .gathering) }; told = t }
+
+pub record Settles (hub : Hub) (f : Framer) (n : ℕ) (joined : Joined) (r : Stepped) : Type 0 where
+  pub is :
+      r
+      ≡ record {
+        hub = record {
+          framer = f;
+          second = pick (acceptsName (joined .told)) (not (hub .second)) (hub .second);
+          last = pick (acceptsName (joined .told)) n (lastOf hub);
+          gathering = joined .gathering;
+        };
+        told = joined .told;
+      }
+
+-- A packet of n bytes in the half that receives: the joiner's step on it, and the control value.
+pub record Receives (hub : Hub) (f : Framer) (n : ℕ) (line gather message : List ℕ) (r : Stepped) (gather′ message′ : List ℕ) : Type 0 where
+  pub joined : Joined
+  pub joins : Joins (packetStep (joinerOf (soundOf (hub .gathering)) (lastIn hub line) gather) (take n (drop (placeOf (hub .second)) line))) gather message joined gather′ message′
+  pub settles : Settles hub f n joined r
+
+pub record NoRoom (hub : Hub) (r : Answered) : Type 0 where
+  pub is : r ≡ record { hub = hub; told = told.Refused refusal.Room; answer = 0 }
+
+pub record Cleared (hub : Hub) (e : Event) (r : Hub) : Type 0 where
+  pub is : r ≡ clearedControl e hub
+
+-- The same for a step of the whole hub before a message gap clears it.
+pub record Steps (hub : Hub) (line gather message : List ℕ) (e : Event) (r : Stepped) (line′ gather′ message′ : List ℕ) : Type 0 where
+  pub told-is : r .told ≡ toldOf (framed heardStep (stateOf hub line gather) e .told)
+  pub hub-is : r .hub ≡ controlAfter hub line e (framed heardStep (stateOf hub line gather) e)
+  pub next : stateOf (r .hub) line′ gather′ ≡ framed heardStep (stateOf hub line gather) e .next
+  pub line-is : line′ ≡ lineBack hub line e
+  pub gather-is : gather′ ≡ over (bytesOf (framed heardStep (stateOf hub line gather) e .next .core .gathered)) gather
+  pub message-is : message′ ≡ over (messageOf (framed heardStep (stateOf hub line gather) e .told)) message
+
+-- The answer to what is told, by its name.
+abbrev pub nameBytes : Told → List ℕ
+nameBytes told.Nothing = []
+nameBytes told.Added = seal (replyBody host Ack)
+nameBytes told.Repeated = seal (replyBody host Ack)
+nameBytes (told.Message code count) = seal (replyBody host Ack)
+nameBytes (told.Refused r) = nakBytes (causeOf r)
+
+-- So many bytes, and these at the front of the answer room.
+pub record Writes (bytes answer : List ℕ) (r : ℕ) (answer′ : List ℕ) : Type 0 where
+  pub is : r ≡ length bytes
+  pub answer-is : answer′ ≡ over bytes answer

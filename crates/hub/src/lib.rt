@@ -1,0 +1,492 @@
+// The hub: decode data of a reader, joined to messages, one event at a time.
+use framer::Event;
+use framer::Found;
+use framer::Framer;
+use packet::Built;
+use packet::DECODE_DATA;
+use packet::HOST;
+use packet::READER;
+use packet::Refusal;
+use packet::Reply;
+ghost use Prim.Native.Nat.{_+_, _≤_};
+ghost use mathlib.Core.Path.{_≡_};
+ghost use lib.ListN.{length, take};
+ghost use Rattle.packet.specs.Opcodes.{host};
+ghost use Rattle.packet.specs.Packet.{seal, dataIn, replyBody};
+ghost use Rattle.packet.specs.Refusals.{causeOf};
+ghost use Rattle.hub.specs.Joiner.{joinStep};
+ghost use Rattle.hub.specs.Hub.{nakBytes, decodeStep, packetStep};
+ghost use Rattle.hub.specs.Promises.{Closed, SwitchedOn, Hears, NoRoom, Cleared, nameBytes, Writes, Steps, Stays, Receives, Settles, Accepts, Place, Last, Sound, Gatherings, Within, IsAnswer, Unchanged, Bars, OtherType, Resent, Joins, Adds, Keeps, HandsOut, joinerOf};
+
+// The line buffer: two halves, one receives, the last accepted packet stays in the other.
+pub const LINE: usize = 514;
+// The longest message, in the gather buffer and in the message room.
+pub const MESSAGE: usize = 4096;
+// The longest answer, a NAK.
+pub const ANSWER: usize = 7;
+
+// What is gathered of a message: whether one is begun, its code type, and how many bytes wait in the gather buffer.
+pub struct Gathering {
+    pub barred: bool,
+    pub begun: bool,
+    pub code: u8,
+    pub count: usize,
+}
+
+// The hub's control value: the framer, which half receives, and how long the packet in the other half is.
+pub struct Hub {
+    pub framer: Framer,
+    pub second: bool,
+    pub last: usize,
+    pub gathering: Gathering,
+}
+
+// What an event brought.
+pub enum Told {
+    Nothing,
+    // a piece was added
+    Added,
+    // a resent equal, acknowledged and not added
+    Repeated,
+    // the message in the message room is whole
+    Message { code: u8, count: usize },
+    Refused(Refusal),
+}
+
+pub struct Answered {
+    pub hub: Hub,
+    pub told: Told,
+    // so many bytes stand in the answer room
+    pub answer: usize,
+}
+
+struct Joined {
+    gathering: Gathering,
+    told: Told,
+}
+
+struct Stepped {
+    hub: Hub,
+    told: Told,
+}
+
+// A hub just switched on.
+pub fn switched_on() -> Hub
+    ensures { λ r. ⌜ SwitchedOn r ⌝ }
+{
+    Hub {
+        framer: framer::idle(),
+        second: false,
+        last: 0,
+        gathering: closed(false),
+    }
+}
+
+// Nothing gathered.
+fn closed(barred: bool) -> Gathering
+    ensures { λ r. ⌜ Closed barred r ⌝ }
+{
+    Gathering {
+        barred,
+        begun: false,
+        code: 0,
+        count: 0,
+    }
+}
+
+// One event. Rooms: 7 bytes for answers, 4,096 for the message.
+pub fn hear(
+    hub: Hub,
+    line: &mut [u8; LINE],
+    gather: &mut [u8; MESSAGE],
+    answer: &mut [u8],
+    message: &mut [u8],
+    event: Event,
+) -> Answered
+    ensures { λ r. ⌜ Hears hub (now (line .entry)) (now (gather .entry)) (now (answer .entry)) (now (message .entry)) event r (now (line .exit)) (now (gather .exit)) (now (answer .exit)) (now (message .exit)) ⌝ }
+{
+    if answer.len() < ANSWER {
+        return no_room(hub);
+    }
+    if message.len() < MESSAGE {
+        return no_room(hub);
+    }
+    let stepped = step(hub, line, gather, message, event);
+    let told = stepped.told;
+    let count = reply(told, answer);
+    let next = stepped.hub;
+    Answered {
+        hub: cleared(next, event),
+        told,
+        answer: count,
+    }
+}
+
+// The event is not taken.
+fn no_room(hub: Hub) -> Answered
+    ensures { λ r. ⌜ NoRoom hub r ⌝ }
+{
+    Answered {
+        hub,
+        told: Told::Refused(Refusal::Room),
+        answer: 0,
+    }
+}
+
+// A message gap clears everything.
+fn cleared(hub: Hub, event: Event) -> Hub
+    ensures { λ r. ⌜ Cleared hub event r ⌝ }
+{
+    match event {
+        Event::Byte(_) => hub,
+        Event::CharacterGap => hub,
+        Event::MessageGap => switched_on(),
+    }
+}
+
+// ACK or NAK for what is told, and how many bytes it has.
+fn reply(told: Told, answer: &mut [u8]) -> usize
+    requires { ⌜ 7 ≤ length (now answer) ⌝ }
+    ensures { λ r. ⌜ Writes (nameBytes told) (now (answer .entry)) r (now (answer .exit)) ⌝ }
+{
+    match told {
+        Told::Nothing => 0,
+        Told::Added => say(Reply::Ack, answer),
+        Told::Repeated => say(Reply::Ack, answer),
+        Told::Message { code: _, count: _ } => say(Reply::Ack, answer),
+        Told::Refused(refusal) => refuse(refusal, answer),
+    }
+}
+
+fn refuse(refusal: Refusal, answer: &mut [u8]) -> usize
+    requires { ⌜ 7 ≤ length (now answer) ⌝ }
+    ensures { λ r. ⌜ Writes (nakBytes (causeOf refusal)) (now (answer .entry)) r (now (answer .exit)) ⌝ }
+{
+    let cause = packet::cause(refusal);
+    if cause == 0 {
+        return 0;
+    }
+    say(Reply::Nak(cause), answer)
+}
+
+fn say(reply: Reply, answer: &mut [u8]) -> usize
+    requires { ⌜ 7 ≤ length (now answer) ⌝ }
+    ensures { λ r. ⌜ Writes (seal (replyBody host reply)) (now (answer .entry)) r (now (answer .exit)) ⌝ }
+{
+    match packet::answer(answer, HOST, reply) {
+        Built::Written(count) => count,
+        Built::Refused(_) => 0,
+    }
+}
+
+// The framer takes the event in the half that receives; a packet goes on to the joining.
+fn step(hub: Hub, line: &mut [u8], gather: &mut [u8], message: &mut [u8], event: Event) -> Stepped
+    requires { ⌜ (length (now line) ≡ 514) × (length (now gather) ≡ 4096) × (4096 ≤ length (now message)) ⌝ }
+    ensures { λ r. ⌜ Steps hub (now (line .entry)) (now (gather .entry)) (now (message .entry)) event r (now (line .exit)) (now (gather .exit)) (now (message .exit)) ⌝ }
+{
+    let from = place(hub.second);
+    let end = from + 257;
+    let framed = framer::hear(hub.framer, &mut line[from..end], event);
+    let found = framed.found;
+    match found {
+        Found::Nothing => stay(hub, framed.framer, Told::Nothing),
+        Found::Refused(refusal) => stay(hub, framed.framer, Told::Refused(refusal)),
+        Found::Packet(head) => received(hub, framed.framer, head.length, line, gather, message),
+    }
+}
+
+// Nothing for the joining: the control value, with another framer.
+fn stay(hub: Hub, framer: Framer, told: Told) -> Stepped
+    ensures { λ r. ⌜ Stays hub framer told r ⌝ }
+{
+    let gathering = sound(hub.gathering);
+    Stepped {
+        hub: Hub {
+            framer,
+            second: hub.second,
+            last: last(hub),
+            gathering,
+        },
+        told,
+    }
+}
+
+// A packet of n bytes stands in the half that receives. Where it is accepted it stays there, and the other half receives.
+fn received(
+    hub: Hub,
+    framer: Framer,
+    n: usize,
+    line: &[u8],
+    gather: &mut [u8],
+    message: &mut [u8],
+) -> Stepped
+    requires { ⌜ (length (now line) ≡ 514) × (length (now gather) ≡ 4096) × (4096 ≤ length (now message)) × (4 ≤ n) × (n ≤ 255) ⌝ }
+    ensures { λ r. ⌜ Receives hub framer n (now (line .entry)) (now (gather .entry)) (now (message .entry)) r (now (gather .exit)) (now (message .exit)) ⌝ }
+{
+    let from = place(hub.second);
+    let other = place(!hub.second);
+    let end = from + n;
+    let kept = other + last(hub);
+    let joined = judge(
+        sound(hub.gathering),
+        &line[from..end],
+        &line[other..kept],
+        gather,
+        message,
+    );
+    settle(hub, framer, n, joined)
+}
+
+// The control value after a packet.
+fn settle(hub: Hub, framer: Framer, n: usize, joined: Joined) -> Stepped
+    ensures { λ r. ⌜ Settles hub framer n joined r ⌝ }
+{
+    let gathering = joined.gathering;
+    let told = joined.told;
+    if accepted(told) {
+        return Stepped {
+            hub: Hub {
+                framer,
+                second: !hub.second,
+                last: n,
+                gathering,
+            },
+            told,
+        };
+    }
+    Stepped {
+        hub: Hub {
+            framer,
+            second: hub.second,
+            last: last(hub),
+            gathering,
+        },
+        told,
+    }
+}
+
+fn accepted(told: Told) -> bool
+    ensures { λ r. ⌜ Accepts told r ⌝ }
+{
+    match told {
+        Told::Nothing => false,
+        Told::Added => true,
+        Told::Repeated => false,
+        Told::Message { code: _, count: _ } => true,
+        Told::Refused(_) => false,
+    }
+}
+
+// Where a half starts.
+fn place(second: bool) -> usize
+    ensures { λ r. ⌜ Place second r ⌝ }
+{
+    if second {
+        return 257;
+    }
+    0
+}
+
+// How many bytes the last accepted packet has; what it cannot have is none.
+fn last(hub: Hub) -> usize
+    ensures { λ r. ⌜ Last hub r ⌝ }
+{
+    if hub.last <= 255 {
+        return hub.last;
+    }
+    0
+}
+
+// Any control value is taken: what the gather buffer cannot hold counts as nothing.
+fn sound(gathering: Gathering) -> Gathering
+    ensures { λ r. ⌜ Gatherings gathering r ⌝ }
+{
+    if gathering.begun {
+        return Gathering {
+            barred: gathering.barred,
+            begun: true,
+            code: gathering.code,
+            count: within(gathering.count),
+        };
+    }
+    closed(gathering.barred)
+}
+
+fn within(count: usize) -> usize
+    ensures { λ r. ⌜ Within count r ⌝ }
+{
+    if count <= MESSAGE {
+        return count;
+    }
+    0
+}
+
+// CMD_ACK and CMD_NAK do nothing; else 4 to 7 in rising order, then the joining.
+fn judge(
+    gathering: Gathering,
+    body: &[u8],
+    last: &[u8],
+    gather: &mut [u8],
+    message: &mut [u8],
+) -> Joined
+    requires { ⌜ Sound gathering × (length (now gather) ≡ 4096) × (4096 ≤ length (now message)) × (4 ≤ length (now body)) ⌝ }
+    ensures { λ r. ⌜ Joins (packetStep (joinerOf gathering (now (last .entry)) (now (gather .entry))) (now (body .entry))) (now (gather .entry)) (now (message .entry)) r (now (gather .exit)) (now (message .exit)) ⌝ }
+{
+    let opcode = body[1];
+    let status = body[3];
+    if is_answer(opcode) {
+        return unchanged(gathering, Told::Nothing);
+    }
+    if body[2] != READER {
+        return unchanged(gathering, Told::Refused(Refusal::Source));
+    }
+    if packet::status_allowed(opcode, status) {
+        if opcode != DECODE_DATA {
+            return unchanged(gathering, Told::Refused(Refusal::Opcode));
+        }
+        return decode(gathering, body, last, gather, message);
+    }
+    unchanged(gathering, Told::Refused(Refusal::Status))
+}
+
+fn is_answer(opcode: u8) -> bool
+    ensures { λ r. ⌜ IsAnswer opcode r ⌝ }
+{
+    if opcode == packet::CMD_ACK {
+        return true;
+    }
+    opcode == packet::CMD_NAK
+}
+
+fn unchanged(gathering: Gathering, told: Told) -> Joined
+    ensures { λ r. ⌜ Unchanged gathering told r ⌝ }
+{
+    Joined { gathering, told }
+}
+
+// The data, from the fifth byte on, is a code type and a piece.
+fn decode(
+    gathering: Gathering,
+    body: &[u8],
+    last: &[u8],
+    gather: &mut [u8],
+    message: &mut [u8],
+) -> Joined
+    requires { ⌜ Sound gathering × (length (now gather) ≡ 4096) × (4096 ≤ length (now message)) × (4 ≤ length (now body)) ⌝ }
+    ensures { λ r. ⌜ Joins (decodeStep (joinerOf gathering (now (last .entry)) (now (gather .entry))) (now (body .entry))) (now (gather .entry)) (now (message .entry)) r (now (gather .exit)) (now (message .exit)) ⌝ }
+{
+    let data = packet::data_part(body);
+    if data.len() == 0 {
+        return unchanged(gathering, Told::Refused(Refusal::Data));
+    }
+    join(gathering, body, data, last, gather, message)
+}
+
+// In this order: bar, repeat, type, total.
+fn join(
+    gathering: Gathering,
+    body: &[u8],
+    data: &[u8],
+    last: &[u8],
+    gather: &mut [u8],
+    message: &mut [u8],
+) -> Joined
+    requires { ⌜ Sound gathering × (length (now gather) ≡ 4096) × (4096 ≤ length (now message)) × (4 ≤ length (now body)) × (now «data» ≡ dataIn (now body)) × (1 ≤ length (now «data»)) ⌝ }
+    ensures { λ r. ⌜ Joins (joinStep (joinerOf gathering (now (last .entry)) (now (gather .entry))) (now (body .entry))) (now (gather .entry)) (now (message .entry)) r (now (gather .exit)) (now (message .exit)) ⌝ }
+{
+    if gathering.barred {
+        return bar();
+    }
+    if resent_equal(last, body) {
+        return unchanged(gathering, Told::Repeated);
+    }
+    add(gathering, body, data, gather, message)
+}
+
+// Refusal 10 drops what was gathered and bars the hub.
+fn bar() -> Joined
+    ensures { λ r. ⌜ Bars r ⌝ }
+{
+    Joined {
+        gathering: closed(true),
+        told: Told::Refused(Refusal::Barred),
+    }
+}
+
+// Marked, and equal to the last accepted packet apart from the mark; compared where they stand.
+fn resent_equal(last: &[u8], body: &[u8]) -> bool
+    requires { ⌜ 4 ≤ length (now body) ⌝ }
+    ensures { λ r. ⌜ Resent (now (last .entry)) (now (body .entry)) r ⌝ }
+{
+    if body[3] % 2 == 1 {
+        return packet::equal_unmarked(last, body);
+    }
+    false
+}
+
+fn add(
+    gathering: Gathering,
+    body: &[u8],
+    data: &[u8],
+    gather: &mut [u8],
+    message: &mut [u8],
+) -> Joined
+    requires { ⌜ Sound gathering × (length (now gather) ≡ 4096) × (4096 ≤ length (now message)) × (4 ≤ length (now body)) × (now «data» ≡ dataIn (now body)) × (1 ≤ length (now «data»)) ⌝ }
+    ensures { λ r. ⌜ Adds gathering (now (body .entry)) (now (gather .entry)) (now (message .entry)) r (now (gather .exit)) (now (message .exit)) ⌝ }
+{
+    let code = data[0];
+    let at = gathering.count;
+    if other_type(gathering, code) {
+        return bar();
+    }
+    if MESSAGE - at < data.len() - 1 {
+        return bar();
+    }
+    if body[3] / 2 % 2 == 0 {
+        return hand_out(code, at, &data[1..], gather, message);
+    }
+    keep(code, at, &data[1..], gather)
+}
+
+// Another type inside a message.
+fn other_type(gathering: Gathering, code: u8) -> bool
+    ensures { λ r. ⌜ OtherType gathering code r ⌝ }
+{
+    if gathering.begun {
+        return gathering.code != code;
+    }
+    false
+}
+
+// A piece put behind those that wait.
+fn keep(code: u8, at: usize, piece: &[u8], gather: &mut [u8]) -> Joined
+    requires { ⌜ at + length (now piece) ≤ length (now gather) ⌝ }
+    ensures { λ r. ⌜ Keeps code at (now (piece .entry)) (now (gather .entry)) r (now (gather .exit)) ⌝ }
+{
+    words::copy(piece, &mut gather[at..]);
+    Joined {
+        gathering: Gathering {
+            barred: false,
+            begun: true,
+            code,
+            count: at + piece.len(),
+        },
+        told: Told::Added,
+    }
+}
+
+// What waits and the last piece, handed out.
+fn hand_out(code: u8, at: usize, piece: &[u8], gather: &[u8], message: &mut [u8]) -> Joined
+    requires { ⌜ (at ≤ length (now gather)) × (at + length (now piece) ≤ length (now message)) ⌝ }
+    ensures { λ r. ⌜ HandsOut code at (now (piece .entry)) (now (gather .entry)) (now (message .entry)) r (now (message .exit)) ⌝ }
+{
+    words::copy(&gather[..at], message);
+    words::copy(piece, &mut message[at..]);
+    Joined {
+        gathering: closed(false),
+        told: Told::Message {
+            code,
+            count: at + piece.len(),
+        },
+    }
+}
