@@ -9,7 +9,7 @@ use lib.ListN.{length, getD, take, length-append, length-take, List·getD-append
 use borrow.Author.Tests.{le-leb, leb-true, eqb-true}
 use Rattle.words.specs.Lists.{pick, Bytes, over}
 use Rattle.words.specs.Machine.{Done, after, through}
-use Rattle.words.proofs.Lists.{take-over}
+use Rattle.words.proofs.Lists.{take-over, length-over}
 use Rattle.packet.specs.Packet.{seal, bodyIn, headIn, checkOf}
 use Rattle.packet.specs.Refusals.{numberOf}
 use Rattle.packet.specs.declared.Refusal.{Refusal}
@@ -138,3 +138,14 @@ line-short f line = by (f .deaf) (leb (f .count) 256) refl
 pub view-after : (f : Framer) (line : List ℕ) (e : Event) → 257 ≤ length line → Bytes (lineAfter f line e) →
     lineOf (framedOf f line e .framer) (lineAfter f line e) ≡ framerStep (lineOf f line) e .next
 view-after f line e h k = rw (enough f line e h, stored f line e h) (view-step (lineOf f line) line e (line-short f line) (rw (stored f line e h) at k))
+
+-- The line buffer keeps its length.
+length-stored : (l : Line) (line : List ℕ) (e : Event) → Short l → 257 ≤ length line → length (storedOf e l line) ≡ length line
+unfolding storedOf
+length-stored (hearing got) line (Byte b) s h = length-over (got ++ (b ∷ [])) line (simp length-append (omega arith))
+length-stored deaf line (Byte b) s h = refl
+length-stored l line CharacterGap s h = refl
+length-stored l line MessageGap s h = refl
+
+pub length-after : (f : Framer) (line : List ℕ) (e : Event) → 257 ≤ length line → length (lineAfter f line e) ≡ length line
+length-after f line e h = rw (stored f line e h) (length-stored (lineOf f line) line e (line-short f line) h)

@@ -2,14 +2,25 @@
 use Prim.Native.Nat.{ℕ, _+_, _-_, _≤_, _<_}
 use mathlib.Core.Path.{_≡_, refl, sym, ap, _∙_}
 use mathlib.Core.Bool.{Bool, true, false, not}
-use mathlib.Core.List.{List, [], _++_}
+use mathlib.Core.List.{List, [], _∷_, _++_}
 use native.Mathlib.Omega.{arith}
 use native.Mathlib.Nat.{add-sub-cancel-left}
-use lib.ListN.{length, take, drop}
-use borrow.Author.Tests.{le-leb, lt-leb}
-use Rattle.words.specs.Lists.{pick}
-use Rattle.framer.specs.Promises.{framedOf, lineAfter, Idle, Frames}
-use Rattle.framer.specs.Halves.{placeOf, halfOf, lastOf, keptIn, receivedIn, listenedOf, bufferAfter, IdleHalves, Listens, Received, Kept, Place, Last}
+use lib.Dec.{leb}
+use lib.ListN.{length, take, drop, length-take, length-drop}
+use lib.Seq.{drop-at, take-at, length-take-le, take-append-le, take-take}
+use borrow.Author.Tests.{le-leb, lt-leb, leb-true}
+use Rattle.words.specs.Lists.{pick, Bytes}
+use Rattle.words.specs.Machine.{Done}
+use Rattle.words.proofs.Lists.{bytes-take, bytes-drop}
+use Rattle.packet.specs.declared.Refusal.{Refusal}
+use Rattle.packet.specs.declared.Head.{Head}
+use Rattle.framer.specs.Framer.{Line, hearing, Heard, packet, refused, framerStep}
+use Rattle.framer.specs.declared.Found.the-variants.{Nothing, Packet, Refused}
+use Rattle.framer.specs.declared.Listened.{Listened}
+use Rattle.framer.proofs.Outcomes.{outcome, found-is, view-is, view-idle, told-nothing, told-refused, told-packet, Whole}
+use Rattle.framer.proofs.Theorems.{length-after}
+use Rattle.framer.specs.Promises.{lineOf, foundOf, framedOf, lineAfter, Idle, Frames}
+use Rattle.framer.specs.Halves.{placeOf, halfOf, lastOf, lineIn, keptIn, acceptedOf, receivedIn, listenedOf, bufferAfter, IdleHalves, Listens, Received, Kept, Place, Last}
 use Rattle.framer.specs.declared.Event.{Event}
 use Rattle.framer.specs.declared.Framer.{Framer}
 use Rattle.framer.specs.declared.Framed.{Framed}
@@ -42,22 +53,191 @@ pub kept-is : {h : Halves} {buffer : List ℕ} {a n : ℕ} → Place (not (h .se
 unfolding keptIn
 kept-is {h} {buffer} {a} {n} p l = record { is = part-of a n buffer ∙ rw (p .is, l .is) refl }
 
-pub received-is : {h : Halves} {buffer : List ℕ} {a n : ℕ} → Place (h .second) a → n ≤ 257 → Received h buffer n (take (a + n - a) (drop a buffer))
+pub received-is : {h : Halves} {buffer : List ℕ} {a n : ℕ} → length buffer ≡ 514 → Place (h .second) a → n ≤ 257 → Received h buffer n (take (a + n - a) (drop a buffer))
 unfolding receivedIn
-received-is {h} {buffer} {a} {n} p l = record { is = part-of a n buffer ∙ simp (le-leb n 257 l, sym (p .is)) }
+received-is {h} {buffer} {a} {n} long p l =
+    let m = p .most in
+    record { is = part-of a n buffer ∙ simp (le-leb n 257 l, sym (p .is)); long = λ z. rw (part-of a n buffer) (simp (length-take, length-drop) (omega arith)) }
 
 pub received-none : {h : Halves} {buffer : List ℕ} {n : ℕ} → 257 < n → Received h buffer n []
 unfolding receivedIn
-received-none {h} {buffer} {n} l = record { is = simp (lt-leb n 257 l) }
+received-none {h} {buffer} {n} l = record { is = simp (lt-leb n 257 l); long = λ z. omega arith }
 
-pub listens : {h : Halves} {buffer half : List ℕ} {e : Event} {a n : ℕ} {r : Framed} → Place (h .second) a → Last h n →
+pub listens : {h : Halves} {buffer half : List ℕ} {e : Event} {a n : ℕ} {r : Framed} → length buffer ≡ 514 → Place (h .second) a → Last h n →
     Frames (h .framer) (take (a + 257 - a) (drop a buffer)) e r half →
+    Bytes (take a buffer ++ (half ++ drop (a + 257 - a) (drop a buffer))) →
     Listens h buffer e (record { halves = record { framer = r .framer; second = h .second; last = n }; found = r .found }) (take a buffer ++ (half ++ drop (a + 257 - a) (drop a buffer)))
 unfolding listenedOf bufferAfter halfOf
-listens {h} {buffer} {half} {e} {a} {n} {r} p l f =
+listens {h} {buffer} {half} {e} {a} {n} {r} long p l f b =
     let size : a + 257 - a ≡ 257 = omega arith in
     let g = rw size at f in
     record {
       is = rw (g .is, l .is, p .is) refl;
       buffer-is = rw size (rw (g .line-is, p .is) refl);
+      long = long;
+      bytes = b;
     }
+
+-- ---- the halves after an event
+
+-- The half that receives has come back.
+abbrev back : Bool → List ℕ → List ℕ → List ℕ
+back second buffer half = take (placeOf second) buffer ++ (half ++ drop 257 (drop (placeOf second) buffer))
+
+place-most : (second : Bool) → placeOf second ≤ 257
+unfolding placeOf
+place-most true = omega arith
+place-most false = omega arith
+
+pub last-most : (h : Halves) → lastOf h ≤ 255
+unfolding lastOf
+last-most h = by (leb (h .last) 255) refl
+  where
+    by : (d : Bool) → leb (h .last) 255 ≡ d → pick d (h .last) 0 ≤ 255
+    by true e = leb-true (h .last) 255 e
+    by false e = omega arith
+
+last-small : (h : Halves) → h .last ≤ 255 → lastOf h ≡ h .last
+unfolding lastOf
+last-small h l = simp (le-leb (h .last) 255 l)
+
+not-not : (b : Bool) → not (not b) ≡ b
+not-not true = refl
+not-not false = refl
+
+length-half : (second : Bool) (buffer : List ℕ) → length buffer ≡ 514 → length (halfOf second buffer) ≡ 257
+unfolding halfOf
+length-half second buffer long = let p = place-most second in simp (length-take, length-drop) (omega arith)
+
+module _ (second : Bool) (buffer half : List ℕ) (long : length buffer ≡ 514) (size : length half ≡ 257) where
+  behind-back : drop (placeOf second) (back second buffer half) ≡ half ++ drop 257 (drop (placeOf second) buffer)
+  behind-back =
+      let p = place-most second in
+      drop-at (take (placeOf second) buffer) (half ++ drop 257 (drop (placeOf second) buffer)) (placeOf second) (length-take-le (placeOf second) buffer (omega arith))
+
+  half-back : halfOf second (back second buffer half) ≡ half
+  unfolding halfOf
+  half-back = rw behind-back (take-at half (drop 257 (drop (placeOf second) buffer)) 257 size)
+
+  front-back : (n : ℕ) → n ≤ 257 → take n (drop (placeOf second) (back second buffer half)) ≡ take n half
+  front-back n h = rw behind-back (take-append-le n half (drop 257 (drop (placeOf second) buffer)) (omega arith))
+
+-- The other half is as it was.
+other-back : (second : Bool) (buffer half : List ℕ) (n : ℕ) → length buffer ≡ 514 → length half ≡ 257 → n ≤ 257 →
+    take n (drop (placeOf (not second)) (back second buffer half)) ≡ take n (drop (placeOf (not second)) buffer)
+unfolding placeOf
+other-back true buffer half n long size h =
+    take-append-le n (take 257 buffer) (half ++ drop 257 (drop 257 buffer)) (simp length-take (omega arith)) ∙ take-take n 257 buffer h
+other-back false buffer half n long size h = rw (drop-at half (drop 257 buffer) 257 size) refl
+
+-- So many bytes are kept.
+pub length-kept : (h : Halves) (buffer : List ℕ) → length buffer ≡ 514 → length (keptIn h buffer) ≡ lastOf h
+unfolding keptIn
+length-kept h buffer long =
+    let p = place-most (not (h .second)) in
+    let m = last-most h in
+    simp (length-take, length-drop) (omega arith)
+
+pub kept-accepted : (h : Halves) (buffer : List ℕ) (n : ℕ) → n ≤ 255 → keptIn (acceptedOf h n) buffer ≡ receivedIn h buffer n
+unfolding keptIn receivedIn
+kept-accepted h buffer n l = simp (last-small (acceptedOf h n) l, not-not (h .second), le-leb n 257 (omega arith))
+
+-- A packet with this head stands in the half that receives, and nothing is begun.
+pub record Arrived (r : Listened) (buffer : List ℕ) (d : Head) (s : Done Line Heard) : Type 0 where
+  pub told-is : s .told ≡ packet (receivedIn (r .halves) buffer (d .length)) ∷ []
+  pub idle : s .next ≡ hearing []
+  pub least : 4 ≤ d .length
+  pub most : d .length ≤ 255
+  pub long : length (receivedIn (r .halves) buffer (d .length)) ≡ d .length
+
+-- The half that receives, as the framer leaves it.
+abbrev halfAfter : Halves → List ℕ → Event → List ℕ
+halfAfter h buffer e = lineAfter (h .framer) (halfOf (h .second) buffer) e
+
+module _ (h : Halves) (buffer : List ℕ) (e : Event) (long : length buffer ≡ 514) where
+  enough-half : 257 ≤ length (halfOf (h .second) buffer)
+  enough-half = let s = length-half (h .second) buffer long in omega arith
+
+  size-after : length (halfAfter h buffer e) ≡ 257
+  size-after = length-after (h .framer) (halfOf (h .second) buffer) e enough-half ∙ length-half (h .second) buffer long
+
+  frames-after : Frames (h .framer) (halfOf (h .second) buffer) e (framedOf (h .framer) (halfOf (h .second) buffer) e) (halfAfter h buffer e)
+  frames-after = record { is = refl; line-is = refl }
+
+module _ {h : Halves} {buffer : List ℕ} {e : Event} {r : Listened} {buffer′ : List ℕ} (k : Listens h buffer e r buffer′) where
+  back-is : buffer′ ≡ back (h .second) buffer (halfAfter h buffer e)
+  unfolding bufferAfter
+  back-is = k .buffer-is
+
+  half-bytes : Bytes (halfAfter h buffer e)
+  unfolding halfOf
+  half-bytes =
+      rw (half-back (h .second) buffer (halfAfter h buffer e) (k .long) (size-after h buffer e (k .long))) at (bytes-take 257 (bytes-drop (placeOf (h .second)) (rw back-is at (k .bytes))))
+
+  found-told : foundOf (framerStep (lineIn h buffer) e .told) ≡ r .found
+  unfolding lineIn listenedOf
+  found-told = found-is (enough-half h buffer e (k .long)) (frames-after h buffer e (k .long)) half-bytes ∙ sym (ap (λ (l : Listened). l .found) (k .is))
+
+  halves-are : r .halves ≡ record { framer = framedOf (h .framer) (halfOf (h .second) buffer) e .framer; second = h .second; last = lastOf h }
+  unfolding listenedOf
+  halves-are = ap (λ (l : Listened). l .halves) (k .is)
+
+  -- What control value and buffer stand for afterwards.
+  pub line-listened : lineIn (r .halves) buffer′ ≡ framerStep (lineIn h buffer) e .next
+  unfolding lineIn
+  line-listened =
+      rw (halves-are, back-is, half-back (h .second) buffer (halfAfter h buffer e) (k .long) (size-after h buffer e (k .long)))
+      (view-is (enough-half h buffer e (k .long)) (frames-after h buffer e (k .long)) half-bytes)
+
+  pub kept-listened : keptIn (r .halves) buffer′ ≡ keptIn h buffer
+  unfolding keptIn
+  kept-listened =
+      let m = last-most h in
+      rw (halves-are, back-is, last-small (record { framer = framedOf (h .framer) (halfOf (h .second) buffer) e .framer; second = h .second; last = lastOf h }) m)
+      (other-back (h .second) buffer (halfAfter h buffer e) (lastOf h) (k .long) (size-after h buffer e (k .long)) (omega arith))
+
+  -- What was found is what was told.
+  pub listened-nothing : r .found ≡ Nothing → framerStep (lineIn h buffer) e .told ≡ []
+  unfolding lineIn
+  listened-nothing q = told-nothing (outcome (enough-half h buffer e (k .long)) (frames-after h buffer e (k .long)) half-bytes) (found-told ∙ q)
+
+  pub listened-refused : {x : Refusal} → r .found ≡ Refused x → framerStep (lineIn h buffer) e .told ≡ refused x ∷ []
+  unfolding lineIn
+  listened-refused q = told-refused (outcome (enough-half h buffer e (k .long)) (frames-after h buffer e (k .long)) half-bytes) (found-told ∙ q)
+
+  pub listened-packet : {d : Head} → r .found ≡ Packet d → Arrived r buffer′ d (framerStep (lineIn h buffer) e)
+  unfolding lineIn receivedIn
+  listened-packet {d} q =
+      let w = told-packet (outcome (enough-half h buffer e (k .long)) (frames-after h buffer e (k .long)) half-bytes) (found-told ∙ q) in
+      let least = w .least in
+      let most = w .most in
+      let size = size-after h buffer e (k .long) in
+      let there : receivedIn (r .halves) buffer′ (d .length) ≡ take (d .length) (halfAfter h buffer e) =
+      simp (le-leb (d .length) 257 (omega arith)) (rw (halves-are, back-is) (front-back (h .second) buffer (halfAfter h buffer e) (k .long) size (d .length) (omega arith))) in
+      record {
+        told-is = rw there (w .told-is);
+        idle = w .idle;
+        least = least;
+        most = most;
+        long = rw there (length-take-le (d .length) (halfAfter h buffer e) (omega arith));
+      }
+
+  -- A packet that was found and is accepted: nothing is begun in the other half, and the packet is kept.
+  pub line-accepted : (n : ℕ) → framerStep (lineIn h buffer) e .next ≡ hearing [] → lineIn (acceptedOf (r .halves) n) buffer′ ≡ hearing []
+  unfolding lineIn
+  line-accepted n q =
+      rw halves-are (view-idle (enough-half h buffer e (k .long)) (frames-after h buffer e (k .long)) half-bytes q (halfOf (not (h .second)) buffer′))
+
+  -- The same for a packet that is accepted or not.
+  pub line-behind : (a : Bool) (n : ℕ) → (a ≡ true → framerStep (lineIn h buffer) e .next ≡ hearing []) → lineIn (pick a (acceptedOf (r .halves) n) (r .halves)) buffer′ ≡ framerStep (lineIn h buffer) e .next
+  line-behind true n idle = line-accepted n (idle refl) ∙ sym (idle refl)
+  line-behind false n idle = line-listened
+
+  pub kept-behind : (a : Bool) (n : ℕ) → n ≤ 255 → keptIn (pick a (acceptedOf (r .halves) n) (r .halves)) buffer′ ≡ pick a (receivedIn (r .halves) buffer′ n) (keptIn h buffer)
+  kept-behind true n l = kept-accepted (r .halves) buffer′ n l
+  kept-behind false n l = kept-listened
+
+  pub control-behind : (a : Bool) (n : ℕ) (last : List ℕ) → (a ≡ true → length last ≡ n) →
+      pick a (acceptedOf (r .halves) n) (r .halves) ≡ pick a (acceptedOf (listenedOf h buffer e .halves) (length last)) (listenedOf h buffer e .halves)
+  control-behind true n last q = rw (k .is, q refl) refl
+  control-behind false n last q = rw (k .is) refl

@@ -6,7 +6,7 @@ use mathlib.Core.List.{List, [], _++_}
 use mathlib.Core.Path.{_≡_}
 use lib.Dec.{leb}
 use lib.ListN.{length, take, drop}
-use Rattle.words.specs.Lists.{pick}
+use Rattle.words.specs.Lists.{pick, Bytes}
 use Rattle.framer.specs.Framer.{Line, hearing}
 use Rattle.framer.specs.Promises.{lineOf, controlOf, framedOf, lineAfter}
 use Rattle.framer.specs.declared.Event.{Event}
@@ -62,9 +62,12 @@ pub record IdleHalves (r : Halves) : Type 0 where
 pub record Listens (h : Halves) (buffer : List ℕ) (e : Event) (r : Listened) (buffer′ : List ℕ) : Type 0 where
   pub is : r ≡ listenedOf h buffer e
   pub buffer-is : buffer′ ≡ bufferAfter h buffer e
+  pub long : length buffer ≡ 514
+  pub bytes : Bytes buffer′
 
 pub record Received (h : Halves) (buffer : List ℕ) (n : ℕ) (r : List ℕ) : Type 0 where
   pub is : r ≡ receivedIn h buffer n
+  pub long : n ≤ 257 → length r ≡ n
 
 pub record Kept (h : Halves) (buffer r : List ℕ) : Type 0 where
   pub is : r ≡ keptIn h buffer

@@ -19,41 +19,18 @@ use Rattle.packet.specs.declared.Reply.the-variants.{Ack, Nak}
 use Rattle.packet.specs.declared.Built.{Built}
 use Rattle.packet.specs.declared.Built.the-variants.{Written, Refused}
 use Rattle.packet.proofs.Writing.{enough}
-use Rattle.framer.specs.Promises.{Idle}
-use Rattle.framer.specs.declared.Framer.{Framer}
-use Rattle.hub.specs.Hub.{isAnswer, nakBytes}
-use Rattle.hub.specs.Promises.{Closed, SwitchedOn, Gatherings, soundOf, Place, placeOf, Last, lastOf, Within, OtherType, IsAnswer, Bars, Accepts, Stays, Settles, Writes, nameBytes}
+use Rattle.framer.specs.Halves.{IdleHalves, AcceptsLast}
+use Rattle.framer.specs.declared.Halves.{Halves}
+use Rattle.hub.specs.Hub.{nakBytes}
+use Rattle.hub.specs.Promises.{Closed, SwitchedOn, Gatherings, soundOf, Within, OtherType, Bars, Accepts, Stays, Settles, Writes, nameBytes}
 use Rattle.hub.specs.declared.Gathering.{Gathering}
 use Rattle.hub.specs.declared.Hub.{Hub}
 use Rattle.hub.specs.declared.Told.{Told}
 use Rattle.hub.specs.declared.Told.the-variants as told
 use Rattle.hub.specs.declared.Joined.{Joined}
+use Rattle.hub.specs.declared.Stepped.{Stepped}
 
 -- ---- tests
-
-pub answer-ack : {o : ℕ} → o ≡ cmdAck → IsAnswer o true
-unfolding isAnswer
-answer-ack {o} e = record { is = simp (eq-eqb o cmdAck e) }
-
-pub answer-other : {o : ℕ} → (o ≡ cmdAck → ⊥) → IsAnswer o (eqb o cmdNak)
-unfolding isAnswer
-answer-other {o} h = record { is = simp (ne-eqb o cmdAck h) }
-
-pub last-kept : {hub : Hub} → hub .last ≤ 255 → Last hub (hub .last)
-unfolding lastOf
-last-kept {hub} h = record { is = simp (le-leb (hub .last) 255 h); most = h }
-
-pub last-none : {hub : Hub} → 255 < hub .last → Last hub 0
-unfolding lastOf
-last-none {hub} h = record { is = simp (lt-leb (hub .last) 255 h); most = omega arith }
-
-pub place-second : {second : Bool} → second ≡ true → Place second 257
-unfolding placeOf
-place-second e = record { is = simp e; inside = omega arith }
-
-pub place-first : {second : Bool} → second ≡ false → Place second 0
-unfolding placeOf
-place-first e = record { is = simp e; inside = omega arith }
 
 pub within-count : {n : ℕ} → n ≤ 4096 → Within n n
 within-count {n} h = record { is = simp (le-leb n 4096 h); most = h }
@@ -69,7 +46,7 @@ other-begun e = record { is = simp e }
 pub bars : {g : Gathering} → Closed true g → Bars (record { gathering = g; told = told.Refused refusal.Barred })
 bars k = record { is = rw (k .is) refl }
 
-pub switched : {f : Framer} {g : Gathering} → Idle f → Closed false g → SwitchedOn (record { framer = f; second = false; last = 0; gathering = g })
+pub switched : {h : Halves} {g : Gathering} → IdleHalves h → Closed false g → SwitchedOn (record { line = h; gathering = g })
 switched i k = record { is = rw (i .is, k .is) refl }
 
 pub sound-begun : {g : Gathering} {n : ℕ} → g .begun ≡ true → Within (g .count) n → Gatherings g (record { barred = g .barred; begun = true; code = g .code; count = n })
@@ -84,18 +61,13 @@ pub sound-closed : {g r : Gathering} → g .begun ≡ false → Closed (g .barre
 unfolding soundOf
 sound-closed e k = record { is = k .is ∙ simp e; sound = rw (k .is) (record { few = omega arith; closed = λ f. (refl, refl) }) }
 
-pub stays : {hub : Hub} {f : Framer} {t : Told} {n : ℕ} {g : Gathering} → Gatherings (hub .gathering) g → Last hub n →
-    Stays hub f t (record { hub = record { framer = f; second = hub .second; last = n; gathering = g }; told = t })
-stays s l = record { is = rw (s .is, l .is) refl }
+module _ {h h′ : Halves} {n : ℕ} {joined : Joined} {a : Bool} {r : Stepped} (p : Accepts (joined .told) a) where
+  pub settles-accepted : a ≡ true → AcceptsLast h n h′ → Stays h′ (joined .gathering) (joined .told) r → Settles h n joined r
+  settles-accepted e k s = record { is = s .is ∙ simp (k .is, sym (p .is) ∙ e) }
 
-module _ {hub : Hub} {f : Framer} {n : ℕ} {joined : Joined} {a : Bool} (p : Accepts (joined .told) a) where
-  pub settles-accepted : a ≡ true →
-      Settles hub f n joined (record { hub = record { framer = f; second = not (hub .second); last = n; gathering = joined .gathering }; told = joined .told })
-  settles-accepted e = record { is = simp (sym (p .is) ∙ e) }
-
-  pub settles-other : {m : ℕ} → a ≡ false → Last hub m →
-      Settles hub f n joined (record { hub = record { framer = f; second = hub .second; last = m; gathering = joined .gathering }; told = joined .told })
-  settles-other e l = record { is = simp (sym (p .is) ∙ e, l .is) }
+module _ {h : Halves} {n : ℕ} {joined : Joined} {a : Bool} {r : Stepped} (p : Accepts (joined .told) a) where
+  pub settles-other : a ≡ false → Stays h (joined .gathering) (joined .told) r → Settles h n joined r
+  settles-other e s = record { is = s .is ∙ simp (sym (p .is) ∙ e) }
 
 -- ---- what goes out
 

@@ -11,33 +11,18 @@ use lib.Seq.{length-take-le, take-at, drop-at, drop-drop}
 use borrow.Author.Tests.{eq-eqb, ne-eqb, lt-ltb, le-ltb}
 use Rattle.words.specs.Lists.{pick, over, overAt, Copied}
 use Rattle.words.specs.Machine.{Done}
-use Rattle.words.proofs.Lists.{over-nil, length-over, part-over, copied-over, rest-part}
+use Rattle.words.proofs.Lists.{over-nil, over-take, over-behind, length-over, part-over, copied-over, rest-part}
 use Rattle.packet.specs.Opcodes.{reader, decodeData}
-use Rattle.packet.specs.Packet.{dataIn, unmarked, equalUnmarked}
-use Rattle.packet.specs.Promises.{DataPart, Allowed, Equal}
+use Rattle.packet.specs.Packet.{dataIn, unmarked, resentEqual, isAnswer}
+use Rattle.packet.specs.Promises.{DataPart, Allowed, Resent, IsAnswer}
 use Rattle.packet.specs.declared.Refusal.the-variants as refusal
-use Rattle.hub.specs.Joiner.{none, some, Joiner, Output, added, repeated, handed, refused, typeIn, pieceIn, resentEqual, otherType, bytesOf, barring, joined, adding, joinStep}
+use Rattle.hub.specs.Joiner.{none, some, Joiner, Output, added, repeated, handed, refused, typeIn, pieceIn, otherType, bytesOf, barring, joined, adding, joinStep}
 use Rattle.hub.specs.Hub.{decodeStep, packetStep, messageBytes}
-use Rattle.hub.specs.Promises.{nameOf, toldOf, messageOf, Sound, gatheredOf, joinerOf, gatheringOf, Closed, OtherType, Resent, IsAnswer, Joins, Adds, Keeps, HandsOut, Bars, Unchanged}
+use Rattle.hub.specs.Promises.{nameOf, toldOf, messageOf, Sound, gatheredOf, joinerOf, gatheringOf, Closed, OtherType, Joins, Adds, Keeps, HandsOut, Bars, Unchanged}
 use Rattle.hub.specs.declared.Gathering.{Gathering}
 use Rattle.hub.specs.declared.Told.{Told}
 use Rattle.hub.specs.declared.Told.the-variants as told
 use Rattle.hub.specs.declared.Joined.{Joined}
-
--- ---- rooms
-
-pub over-take : (n : ℕ) (s : List ℕ) → over (take n s) s ≡ s
-unfolding over
-over-take zero s = refl
-over-take (suc n) [] = refl
-over-take (suc n) (x ∷ xs) = ap (λ (l : List ℕ). x ∷ l) (over-take n xs)
-
--- Written over, and then behind that: written over at once.
-pub over-behind : (n : ℕ) (p q room : List ℕ) → length p ≡ n → overAt n q (over p room) ≡ over (p ++ q) room
-unfolding over overAt
-over-behind n p q room e =
-    rw (take-at p (drop (length p) room) n e, drop-at p (drop (length p) room) n e)
-    (sym (append-assoc p q (drop (length (p ++ q)) room) ∙ ap (λ (l : List ℕ). p ++ (q ++ l)) (rw (length-append p q) (sym (drop-drop (length q) (length p) room)))))
 
 -- ---- what the control value and the gather buffer stand for
 
@@ -86,16 +71,6 @@ still g last gather message outs s l e n m u =
 bars-joins : (j : Joiner) {d : Done Joiner Output} {gather message : List ℕ} {r : Joined} → d ≡ barring j → Bars r → Joins d gather message r gather message
 unfolding barring toldOf nameOf bytesOf messageOf messageBytes over
 bars-joins j e b = rw e (record { told-is = rw (b .is) refl; gathering-is = rw (b .is) refl; gather-is = refl; message-is = refl })
-
--- ---- a resent equal
-
-pub resent-marked : {last body : List ℕ} {r : Bool} → getD body 3 0 % 2 ≡ 1 → Equal last body r → Resent last body r
-unfolding resentEqual equalUnmarked
-resent-marked {last} {body} e k = record { is = k .is ∙ sym (simp (eq-eqb (getD body 3 0 % 2) 1 e)) }
-
-pub resent-other : {last body : List ℕ} → (getD body 3 0 % 2 ≡ 1 → ⊥) → Resent last body false
-unfolding resentEqual
-resent-other {last} {body} h = record { is = simp (ne-eqb (getD body 3 0 % 2) 1 h) }
 
 -- ---- pieces
 

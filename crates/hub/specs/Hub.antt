@@ -4,10 +4,10 @@ use mathlib.Core.Bool.{Bool, true, false}
 use mathlib.Core.List.{List, [], _∷_, _++_}
 use lib.Dec.{eqb}
 use lib.ListN.{length, getD}
-use Rattle.words.specs.Lists.{pick, either}
+use Rattle.words.specs.Lists.{pick}
 use Rattle.words.specs.Machine.{Done}
-use Rattle.packet.specs.Opcodes.{host, reader, cmdAck, cmdNak, decodeData}
-use Rattle.packet.specs.Packet.{seal, dataIn, statusAllowed, replyBody}
+use Rattle.packet.specs.Opcodes.{host, reader, decodeData}
+use Rattle.packet.specs.Packet.{seal, dataIn, statusAllowed, replyBody, isAnswer}
 use Rattle.packet.specs.Refusals.{causeOf}
 use Rattle.packet.specs.declared.Refusal.{Refusal}
 use Rattle.packet.specs.declared.Refusal.the-variants.{Source, Status, Opcode, Data}
@@ -31,9 +31,6 @@ abbrev pub refuses : Joiner → Refusal → Done Joiner Output
 refuses j r = record { next = j; told = refused r ∷ [] }
 
 -- CMD_ACK and CMD_NAK, right or wrong, do nothing. Else 4 to 7 in rising order, then the joining.
-unfoldable pub isAnswer : ℕ → Bool
-isAnswer opcode = either (eqb opcode cmdAck) (eqb opcode cmdNak)
-
 unfoldable pub decodeStep : Joiner → List ℕ → Done Joiner Output
 decodeStep j body = pick (eqb (length (dataIn body)) 0) (refuses j Data) (joinStep j body)
 

@@ -4,9 +4,9 @@ use mathlib.Core.Bool.{Bool, true, false, not}
 use mathlib.Core.List.{List, [], _∷_, _++_}
 use lib.Dec.{eqb, ltb}
 use lib.ListN.{length, getD, drop}
-use Rattle.words.specs.Lists.{pick, both, sameBytes}
+use Rattle.words.specs.Lists.{pick}
 use Rattle.words.specs.Machine.{Done}
-use Rattle.packet.specs.Packet.{dataIn, resendBit, moreBit, unmarked}
+use Rattle.packet.specs.Packet.{dataIn, moreBit, unmarked, resentEqual}
 use Rattle.packet.specs.declared.Refusal.{Refusal}
 use Rattle.packet.specs.declared.Refusal.the-variants.{Barred}
 
@@ -34,10 +34,6 @@ typeIn body = getD (dataIn body) 0 0
 
 unfoldable pub pieceIn : List ℕ → List ℕ
 pieceIn body = drop 1 (dataIn body)
-
--- A resent equal of the last accepted packet: the resend mark, and equal apart from it.
-unfoldable pub resentEqual : List ℕ → List ℕ → Bool
-resentEqual last body = both (eqb (resendBit (getD body 3 0)) 1) (sameBytes last (unmarked body))
 
 -- Another type inside a message.
 unfoldable pub otherType : Gathered → ℕ → Bool

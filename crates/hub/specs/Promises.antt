@@ -12,14 +12,13 @@ use Rattle.packet.specs.Packet.{unmarked, seal, replyBody}
 use Rattle.packet.specs.Refusals.{causeOf}
 use Rattle.packet.specs.declared.Reply.the-variants.{Ack, Nak}
 use Rattle.packet.specs.declared.Refusal.the-variants as refusal
-use Rattle.framer.specs.Framer.{Line, hearing}
 use Rattle.framer.specs.Behind.{Behind, framed}
-use Rattle.framer.specs.Promises.{lineOf, controlOf, framedOf, lineAfter}
-use Rattle.framer.specs.declared.Framer.{Framer}
+use Rattle.framer.specs.Halves.{lineIn, keptIn, receivedIn, idleHalves, listenedOf, bufferAfter, acceptedOf}
+use Rattle.framer.specs.declared.Halves.{Halves}
 use Rattle.framer.specs.declared.Event.{Event}
 use Rattle.framer.specs.declared.Event.the-variants.{Byte, CharacterGap, MessageGap}
-use Rattle.hub.specs.Joiner.{Gathered, none, some, Joiner, Output, added, repeated, handed, refused, bytesOf, otherType, resentEqual, joinStep, adding, barring}
-use Rattle.hub.specs.Hub.{HubState, switchedOn, isAnswer, packetStep, heardStep, hubStep, nakBytes, answerBytes, messageBytes}
+use Rattle.hub.specs.Joiner.{Gathered, none, some, Joiner, Output, added, repeated, handed, refused, bytesOf, otherType, adding}
+use Rattle.hub.specs.Hub.{HubState, switchedOn, packetStep, heardStep, hubStep, nakBytes, answerBytes, messageBytes}
 use Rattle.hub.specs.declared.Gathering.{Gathering}
 use Rattle.hub.specs.declared.Hub.{Hub}
 use Rattle.hub.specs.declared.Told.{Told}
@@ -73,24 +72,11 @@ abbrev pub gatheringOf : Bool → Gathered → Gathering
 gatheringOf barred none = record { barred = barred; begun = false; code = 0; count = 0 }
 gatheringOf barred (some code bytes) = record { barred = barred; begun = true; code = code; count = length bytes }
 
--- The line buffer has two halves of 257: one receives, the last accepted packet stays in the other.
-unfoldable pub placeOf : Bool → ℕ
-placeOf second = pick second 257 0
-
-unfoldable pub halfOf : Bool → List ℕ → List ℕ
-halfOf second line = take 257 (drop (placeOf second) line)
-
-unfoldable pub lastOf : Hub → ℕ
-lastOf hub = pick (leb (hub .last) 255) (hub .last) 0
-
-unfoldable pub lastIn : Hub → List ℕ → List ℕ
-lastIn hub line = take (lastOf hub) (drop (placeOf (not (hub .second))) line)
-
 unfoldable pub stateOf : Hub → List ℕ → List ℕ → HubState
-stateOf hub line gather = record { line = lineOf (hub .framer) (halfOf (hub .second) line); core = joinerOf (soundOf (hub .gathering)) (lastIn hub line) gather }
+stateOf hub line gather = record { line = lineIn (hub .line) line; core = joinerOf (soundOf (hub .gathering)) (keptIn (hub .line) line) gather }
 
 abbrev pub offControl : Hub
-offControl = record { framer = controlOf (hearing []); second = false; last = 0; gathering = gatheringOf false none }
+offControl = record { line = idleHalves; gathering = gatheringOf false none }
 
 -- ---- the control value and the line buffer afterwards
 
@@ -105,16 +91,9 @@ accepts (refused r ∷ xs) = false
 unfoldable pub controlAfter : Hub → List ℕ → Event → Done HubState Output → Hub
 controlAfter hub line e d =
     record {
-      framer = framedOf (hub .framer) (halfOf (hub .second) line) e .framer;
-      second = pick (accepts (d .told)) (not (hub .second)) (hub .second);
-      last = length (d .next .core .last);
+      line = pick (accepts (d .told)) (acceptedOf (listenedOf (hub .line) line e .halves) (length (d .next .core .last))) (listenedOf (hub .line) line e .halves);
       gathering = gatheringOf (d .next .core .barred) (d .next .core .gathered);
     }
-
-unfoldable pub lineBack : Hub → List ℕ → Event → List ℕ
-lineBack hub line e =
-    take (placeOf (hub .second)) line
-    ++ (lineAfter (hub .framer) (halfOf (hub .second) line) e ++ drop 257 (drop (placeOf (hub .second)) line))
 
 -- A message gap clears the control value.
 abbrev pub clearedControl : Event → Hub → Hub
@@ -144,7 +123,7 @@ pub record Hears (hub : Hub) (line gather answer message : List ℕ) (e : Event)
         answer = length (answerOf (hubStep (stateOf hub line gather) e .told));
       })
   pub next : stateOf (r .hub) line′ gather′ ≡ pick (tooSmall answer message) (stateOf hub line gather) (hubStep (stateOf hub line gather) e .next)
-  pub line-is : line′ ≡ pick (tooSmall answer message) line (lineBack hub line e)
+  pub line-is : line′ ≡ pick (tooSmall answer message) line (bufferAfter (hub .line) line e)
   pub gather-is : gather′ ≡ pick (tooSmall answer message) gather (over (bytesOf (framed heardStep (stateOf hub line gather) e .next .core .gathered)) gather)
   pub answer-is : answer′ ≡ over (pick (tooSmall answer message) [] (answerOf (hubStep (stateOf hub line gather) e .told))) answer
   pub message-is : message′ ≡ over (pick (tooSmall answer message) [] (messageOf (hubStep (stateOf hub line gather) e .told))) message
@@ -155,22 +134,8 @@ pub record Gatherings (g r : Gathering) : Type 0 where
   pub is : r ≡ soundOf g
   pub sound : Sound r
 
-pub record Place (second : Bool) (r : ℕ) : Type 0 where
-  pub is : r ≡ placeOf second
-  pub inside : r + 257 ≤ 514
-
-pub record Last (hub : Hub) (r : ℕ) : Type 0 where
-  pub is : r ≡ lastOf hub
-  pub most : r ≤ 255
-
 pub record OtherType (g : Gathering) (code : ℕ) (r : Bool) : Type 0 where
   pub is : r ≡ pick (g .begun) (not (eqb (g .code) code)) false
-
-pub record Resent (last body : List ℕ) (r : Bool) : Type 0 where
-  pub is : r ≡ resentEqual (unmarked last) body
-
-pub record IsAnswer (opcode : ℕ) (r : Bool) : Type 0 where
-  pub is : r ≡ isAnswer opcode
 
 -- What one step of the joiner, d, leaves in the control value, the gather buffer and the message room.
 pub record Joins (d : Done Joiner Output) (gather message : List ℕ) (r : Joined) (gather′ message′ : List ℕ) : Type 0 where
@@ -213,27 +178,22 @@ acceptsName (told.Refused r) = false
 pub record Accepts (t : Told) (r : Bool) : Type 0 where
   pub is : r ≡ acceptsName t
 
-pub record Stays (hub : Hub) (f : Framer) (t : Told) (r : Stepped) : Type 0 where
-  pub is : r ≡ record { hub = record { framer = f; second = hub .second; last = lastOf hub; gathering = soundOf (hub .gathering) }; told = t }
+pub record Stays (h : Halves) (g : Gathering) (t : Told) (r : Stepped) : Type 0 where
+  pub is : r ≡ record { hub = record { line = h; gathering = g }; told = t }
 
-pub record Settles (hub : Hub) (f : Framer) (n : ℕ) (joined : Joined) (r : Stepped) : Type 0 where
+pub record Settles (h : Halves) (n : ℕ) (joined : Joined) (r : Stepped) : Type 0 where
   pub is :
       r
       ≡ record {
-        hub = record {
-          framer = f;
-          second = pick (acceptsName (joined .told)) (not (hub .second)) (hub .second);
-          last = pick (acceptsName (joined .told)) n (lastOf hub);
-          gathering = joined .gathering;
-        };
+        hub = record { line = pick (acceptsName (joined .told)) (acceptedOf h n) h; gathering = joined .gathering };
         told = joined .told;
       }
 
 -- A packet of n bytes in the half that receives: the joiner's step on it, and the control value.
-pub record Receives (hub : Hub) (f : Framer) (n : ℕ) (line gather message : List ℕ) (r : Stepped) (gather′ message′ : List ℕ) : Type 0 where
+pub record Receives (h : Halves) (g : Gathering) (n : ℕ) (line gather message : List ℕ) (r : Stepped) (gather′ message′ : List ℕ) : Type 0 where
   pub joined : Joined
-  pub joins : Joins (packetStep (joinerOf (soundOf (hub .gathering)) (lastIn hub line) gather) (take n (drop (placeOf (hub .second)) line))) gather message joined gather′ message′
-  pub settles : Settles hub f n joined r
+  pub joins : Joins (packetStep (joinerOf g (keptIn h line) gather) (receivedIn h line n)) gather message joined gather′ message′
+  pub settles : Settles h n joined r
 
 pub record NoRoom (hub : Hub) (r : Answered) : Type 0 where
   pub is : r ≡ record { hub = hub; told = told.Refused refusal.Room; answer = 0 }
@@ -246,7 +206,7 @@ pub record Steps (hub : Hub) (line gather message : List ℕ) (e : Event) (r : S
   pub told-is : r .told ≡ toldOf (framed heardStep (stateOf hub line gather) e .told)
   pub hub-is : r .hub ≡ controlAfter hub line e (framed heardStep (stateOf hub line gather) e)
   pub next : stateOf (r .hub) line′ gather′ ≡ framed heardStep (stateOf hub line gather) e .next
-  pub line-is : line′ ≡ lineBack hub line e
+  pub line-is : line′ ≡ bufferAfter (hub .line) line e
   pub gather-is : gather′ ≡ over (bytesOf (framed heardStep (stateOf hub line gather) e .next .core .gathered)) gather
   pub message-is : message′ ≡ over (messageOf (framed heardStep (stateOf hub line gather) e .told)) message
 

@@ -1,7 +1,8 @@
 // The hub: decode data of a reader, joined to messages, one event at a time.
 use framer::Event;
 use framer::Found;
-use framer::Framer;
+use framer::HALVES;
+use framer::Halves;
 use packet::Built;
 use packet::DECODE_DATA;
 use packet::HOST;
@@ -16,10 +17,10 @@ ghost use Rattle.packet.specs.Packet.{seal, dataIn, replyBody};
 ghost use Rattle.packet.specs.Refusals.{causeOf};
 ghost use Rattle.hub.specs.Joiner.{joinStep};
 ghost use Rattle.hub.specs.Hub.{nakBytes, decodeStep, packetStep};
-ghost use Rattle.hub.specs.Promises.{Closed, SwitchedOn, Hears, NoRoom, Cleared, nameBytes, Writes, Steps, Stays, Receives, Settles, Accepts, Place, Last, Sound, Gatherings, Within, IsAnswer, Unchanged, Bars, OtherType, Resent, Joins, Adds, Keeps, HandsOut, joinerOf};
+ghost use Rattle.hub.specs.Promises.{Closed, SwitchedOn, Hears, NoRoom, Cleared, nameBytes, Writes, Steps, Stays, Receives, Settles, Accepts, Sound, Gatherings, Within, Unchanged, Bars, OtherType, Joins, Adds, Keeps, HandsOut, joinerOf};
 
 // The line buffer: two halves, one receives, the last accepted packet stays in the other.
-pub const LINE: usize = 514;
+pub const LINE: usize = HALVES;
 // The longest message, in the gather buffer and in the message room.
 pub const MESSAGE: usize = 4096;
 // The longest answer, a NAK.
@@ -33,11 +34,9 @@ pub struct Gathering {
     pub count: usize,
 }
 
-// The hub's control value: the framer, which half receives, and how long the packet in the other half is.
+// The hub's control value: the line with its last accepted packet, and what is gathered.
 pub struct Hub {
-    pub framer: Framer,
-    pub second: bool,
-    pub last: usize,
+    pub line: Halves,
     pub gathering: Gathering,
 }
 
@@ -75,9 +74,7 @@ pub fn switched_on() -> Hub
     ensures { λ r. ⌜ SwitchedOn r ⌝ }
 {
     Hub {
-        framer: framer::idle(),
-        second: false,
-        last: 0,
+        line: framer::idle_halves(),
         gathering: closed(false),
     }
 }
@@ -179,32 +176,35 @@ fn say(reply: Reply, answer: &mut [u8]) -> usize
     }
 }
 
-// The framer takes the event in the half that receives; a packet goes on to the joining.
-fn step(hub: Hub, line: &mut [u8], gather: &mut [u8], message: &mut [u8], event: Event) -> Stepped
-    requires { ⌜ (length (now line) ≡ 514) × (length (now gather) ≡ 4096) × (4096 ≤ length (now message)) ⌝ }
+// The framer takes the event; a packet goes on to the joining.
+fn step(
+    hub: Hub,
+    line: &mut [u8; LINE],
+    gather: &mut [u8],
+    message: &mut [u8],
+    event: Event,
+) -> Stepped
+    requires { ⌜ (length (now gather) ≡ 4096) × (4096 ≤ length (now message)) ⌝ }
     ensures { λ r. ⌜ Steps hub (now (line .entry)) (now (gather .entry)) (now (message .entry)) event r (now (line .exit)) (now (gather .exit)) (now (message .exit)) ⌝ }
 {
-    let from = place(hub.second);
-    let end = from + 257;
-    let framed = framer::hear(hub.framer, &mut line[from..end], event);
-    let found = framed.found;
+    let listened = framer::listen(hub.line, line, event);
+    let halves = listened.halves;
+    let found = listened.found;
+    let gathering = sound(hub.gathering);
     match found {
-        Found::Nothing => stay(hub, framed.framer, Told::Nothing),
-        Found::Refused(refusal) => stay(hub, framed.framer, Told::Refused(refusal)),
-        Found::Packet(head) => received(hub, framed.framer, head.length, line, gather, message),
+        Found::Nothing => stay(halves, gathering, Told::Nothing),
+        Found::Refused(refusal) => stay(halves, gathering, Told::Refused(refusal)),
+        Found::Packet(head) => received(halves, gathering, head.length, line, gather, message),
     }
 }
 
-// Nothing for the joining: the control value, with another framer.
-fn stay(hub: Hub, framer: Framer, told: Told) -> Stepped
-    ensures { λ r. ⌜ Stays hub framer told r ⌝ }
+// Nothing for the joining.
+fn stay(halves: Halves, gathering: Gathering, told: Told) -> Stepped
+    ensures { λ r. ⌜ Stays halves gathering told r ⌝ }
 {
-    let gathering = sound(hub.gathering);
     Stepped {
         hub: Hub {
-            framer,
-            second: hub.second,
-            last: last(hub),
+            line: halves,
             gathering,
         },
         told,
@@ -213,56 +213,32 @@ fn stay(hub: Hub, framer: Framer, told: Told) -> Stepped
 
 // A packet of n bytes stands in the half that receives. Where it is accepted it stays there, and the other half receives.
 fn received(
-    hub: Hub,
-    framer: Framer,
+    halves: Halves,
+    gathering: Gathering,
     n: usize,
-    line: &[u8],
+    line: &[u8; LINE],
     gather: &mut [u8],
     message: &mut [u8],
 ) -> Stepped
-    requires { ⌜ (length (now line) ≡ 514) × (length (now gather) ≡ 4096) × (4096 ≤ length (now message)) × (4 ≤ n) × (n ≤ 255) ⌝ }
-    ensures { λ r. ⌜ Receives hub framer n (now (line .entry)) (now (gather .entry)) (now (message .entry)) r (now (gather .exit)) (now (message .exit)) ⌝ }
+    requires { ⌜ Sound gathering × (length (now gather) ≡ 4096) × (4096 ≤ length (now message)) × (4 ≤ n) × (n ≤ 255) ⌝ }
+    ensures { λ r. ⌜ Receives halves gathering n (now (line .entry)) (now (gather .entry)) (now (message .entry)) r (now (gather .exit)) (now (message .exit)) ⌝ }
 {
-    let from = place(hub.second);
-    let other = place(!hub.second);
-    let end = from + n;
-    let kept = other + last(hub);
-    let joined = judge(
-        sound(hub.gathering),
-        &line[from..end],
-        &line[other..kept],
-        gather,
-        message,
-    );
-    settle(hub, framer, n, joined)
+    let body = framer::received(halves, line, n);
+    let last = framer::kept(halves, line);
+    let joined = judge(gathering, body, last, gather, message);
+    settle(halves, n, joined)
 }
 
 // The control value after a packet.
-fn settle(hub: Hub, framer: Framer, n: usize, joined: Joined) -> Stepped
-    ensures { λ r. ⌜ Settles hub framer n joined r ⌝ }
+fn settle(halves: Halves, n: usize, joined: Joined) -> Stepped
+    ensures { λ r. ⌜ Settles halves n joined r ⌝ }
 {
     let gathering = joined.gathering;
     let told = joined.told;
     if accepted(told) {
-        return Stepped {
-            hub: Hub {
-                framer,
-                second: !hub.second,
-                last: n,
-                gathering,
-            },
-            told,
-        };
+        return stay(framer::accept(halves, n), gathering, told);
     }
-    Stepped {
-        hub: Hub {
-            framer,
-            second: hub.second,
-            last: last(hub),
-            gathering,
-        },
-        told,
-    }
+    stay(halves, gathering, told)
 }
 
 fn accepted(told: Told) -> bool
@@ -275,26 +251,6 @@ fn accepted(told: Told) -> bool
         Told::Message { code: _, count: _ } => true,
         Told::Refused(_) => false,
     }
-}
-
-// Where a half starts.
-fn place(second: bool) -> usize
-    ensures { λ r. ⌜ Place second r ⌝ }
-{
-    if second {
-        return 257;
-    }
-    0
-}
-
-// How many bytes the last accepted packet has; what it cannot have is none.
-fn last(hub: Hub) -> usize
-    ensures { λ r. ⌜ Last hub r ⌝ }
-{
-    if hub.last <= 255 {
-        return hub.last;
-    }
-    0
 }
 
 // Any control value is taken: what the gather buffer cannot hold counts as nothing.
@@ -334,7 +290,7 @@ fn judge(
 {
     let opcode = body[1];
     let status = body[3];
-    if is_answer(opcode) {
+    if packet::is_answer(opcode) {
         return unchanged(gathering, Told::Nothing);
     }
     if body[2] != READER {
@@ -347,15 +303,6 @@ fn judge(
         return decode(gathering, body, last, gather, message);
     }
     unchanged(gathering, Told::Refused(Refusal::Status))
-}
-
-fn is_answer(opcode: u8) -> bool
-    ensures { λ r. ⌜ IsAnswer opcode r ⌝ }
-{
-    if opcode == packet::CMD_ACK {
-        return true;
-    }
-    opcode == packet::CMD_NAK
 }
 
 fn unchanged(gathering: Gathering, told: Told) -> Joined
@@ -397,7 +344,7 @@ fn join(
     if gathering.barred {
         return bar();
     }
-    if resent_equal(last, body) {
+    if packet::resent_equal(last, body) {
         return unchanged(gathering, Told::Repeated);
     }
     add(gathering, body, data, gather, message)
@@ -411,17 +358,6 @@ fn bar() -> Joined
         gathering: closed(true),
         told: Told::Refused(Refusal::Barred),
     }
-}
-
-// Marked, and equal to the last accepted packet apart from the mark; compared where they stand.
-fn resent_equal(last: &[u8], body: &[u8]) -> bool
-    requires { ⌜ 4 ≤ length (now body) ⌝ }
-    ensures { λ r. ⌜ Resent (now (last .entry)) (now (body .entry)) r ⌝ }
-{
-    if body[3] % 2 == 1 {
-        return packet::equal_unmarked(last, body);
-    }
-    false
 }
 
 fn add(

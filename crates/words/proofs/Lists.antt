@@ -110,6 +110,19 @@ over-overAt a p q room h l =
     over-rest p (overAt a q room) room
     (rw e (sym (drop-drop k a (overAt a q room)) ∙ (rw (drop-overAt a q room h) (drop-over q (drop a room) k (omega arith)) ∙ drop-drop k a room)))
 
+pub over-take : (n : ℕ) (s : List ℕ) → over (take n s) s ≡ s
+unfolding over
+over-take zero s = refl
+over-take (suc n) [] = refl
+over-take (suc n) (x ∷ xs) = ap (λ (l : List ℕ). x ∷ l) (over-take n xs)
+
+-- Written over, and then behind that: written over at once.
+pub over-behind : (n : ℕ) (p q room : List ℕ) → length p ≡ n → overAt n q (over p room) ≡ over (p ++ q) room
+unfolding over overAt
+over-behind n p q room e =
+    rw (take-at p (drop (length p) room) n e, drop-at p (drop (length p) room) n e)
+    (sym (append-assoc p q (drop (length (p ++ q)) room) ∙ ap (λ (l : List ℕ). p ++ (q ++ l)) (rw (length-append p q) (sym (drop-drop (length q) (length p) room)))))
+
 -- ---- a part that was lent and has come back
 
 -- All bytes from a on.

@@ -1,4 +1,5 @@
 -- `framer::listen_in` meets its contract: the receiving half is lent to `hear` and put back. Assumes nothing.
+use native.Mathlib.Omega.{arith}
 use Rattle.framer.proofs.TwoHalves.{listens}
 use borrow.Author.Needs.{needs}
 use Rattle.framer.proofs.listen_in.Statement.{statement}
@@ -29,7 +30,7 @@ same-length : tie.Need-same-length
 same-length c = search needs
 
 returns : tie.Need-returns
-returns c = listens (c .before .before .before .before .before .before .place .ensures) (c .last .ensures) (c .before .before .before .before .hear .ensures)
+returns c = listens (search needs) (c .before .before .before .before .before .before .place .ensures) (c .last .ensures) (c .before .before .before .before .hear .ensures) (record { each = λ i. omega (arith, c .before .before .slice-known2 .given i) })
 
 pub listen-in-spec : {M : Type 1} → statement M
 listen-in-spec =

@@ -21,7 +21,7 @@ part-result-end : tie.Need-part-result-end
 part-result-end c = search needs
 
 returns : tie.Need-returns
-returns c = received-is (c .before .before .before .place .ensures) (omega arith)
+returns c = received-is (search needs) (c .before .before .before .place .ensures) (omega arith)
 
 slice-aggregate-result : tie.Need-slice-aggregate-result
 slice-aggregate-result c = search needs

@@ -4,14 +4,14 @@ use borrow.Author.Needs.{needs}
 use Rattle.hub.proofs.switched_on.Statement.{statement}
 use Rattle.hub.proofs.switched_on.Tie as tie
 
-idle-requires : tie.Need-idle-requires
-idle-requires c κs = search needs
+idle-halves-requires : tie.Need-idle-halves-requires
+idle-halves-requires c κs = search needs
 
 closed-requires : tie.Need-closed-requires
 closed-requires c κs = search needs
 
 returns : tie.Need-returns
-returns c = switched (c .before .idle .ensures) (c .closed .ensures)
+returns c = switched (c .before .idle-halves .ensures) (c .closed .ensures)
 
 pub switched-on-spec : {M : Type 1} → statement M
-switched-on-spec = tie.close (tie.spec idle-requires closed-requires returns)
+switched-on-spec = tie.close (tie.spec idle-halves-requires closed-requires returns)
