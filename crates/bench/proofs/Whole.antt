@@ -1,0 +1,289 @@
+-- The law that ties both ends: the packets of any message, fed whole to a hub at rest, are acknowledged one by one, and the hub hands
+-- out exactly that message. A run behind a framer is the framer's run, then the machine's; pieces go along the cut. Assumes nothing.
+use Prim.Native.Nat.{ℕ, zero, suc, _+_, _-_, _/_, _%_, _≤_, _<_}
+use mathlib.Core.Path.{_≡_, refl, sym, ap, _∙_}
+use mathlib.Core.Bool.{Bool, true, false}
+use mathlib.Core.List.{List, [], _∷_, _++_, map, flatMap, append-assoc}
+use native.Mathlib.Omega.{arith}
+use lib.Dec.{eqb}
+use lib.ListN.{length, getD, take, drop, replicate, take-append-drop, length-append, length-drop}
+use lib.Seq.{length-take-le, take-length}
+use borrow.Author.Tests.{eq-eqb, ne-eqb, le-ltb}
+use Rattle.words.specs.Lists.{either, Bytes}
+use Rattle.words.specs.Machine.{Done, after, through}
+use Rattle.words.proofs.Machine.{through-append, through-one}
+use Rattle.packet.specs.Opcodes.{host, reader, decodeData}
+use Rattle.packet.specs.Packet.{bodyOf, seal, dataIn, statusAllowed, replyBody, unmarked, resentEqual, isAnswer}
+use Rattle.packet.specs.declared.Reply.the-variants.{Ack}
+use Rattle.packet.proofs.Theorems.{Body}
+use Rattle.framer.specs.Framer.{hearing, Heard, packet, atGap, framerStep}
+use Rattle.framer.specs.Behind.{Behind, framed}
+use Rattle.framer.specs.declared.Event.{Event}
+use Rattle.framer.specs.declared.Event.the-variants.{Byte, CharacterGap}
+use Rattle.framer.proofs.Theorems.{packet-found}
+use Rattle.hub.specs.Joiner.{none, some, Joiner, Output, added, handed, typeIn, pieceIn, otherType, bytesOf, joined, adding, joinStep}
+use Rattle.hub.specs.Hub.{HubState, switchedOn, decodeStep, packetStep, heardStep, cleared, hubStep, answerBytes}
+use Rattle.sender.specs.Pieces.{bodiesOf, packetsOf}
+use Rattle.sender.proofs.Answering.{bodies-more}
+use Rattle.sender.proofs.Theorems.{Cut, last, more, pieces-are-cut, Each, none as no-body, one, packets-bodies, packets-number}
+use Rattle.bench.specs.Whole.{copyThen, copiesOf, closeCopiesOf, Rests, wholeTold, TakesIn}
+
+-- ---- a machine behind a framer (these laws belong to the crate framer)
+
+-- A run behind a framer is the framer's run, and then the machine's over all that the framer told.
+pub framed-run : {S O : Type 0} (step : S → Heard → Done S O) (b : Behind S) (es : List Event) →
+    through (framed step) b es
+    ≡ record {
+      next = record { line = through framerStep (b .line) es .next; core = through step (b .core) (through framerStep (b .line) es .told) .next };
+      told = through step (b .core) (through framerStep (b .line) es .told) .told;
+    }
+unfolding through after framed
+framed-run step b [] = refl
+framed-run step b (e ∷ es) =
+    rw (
+      framed-run step (framed step b e .next) es,
+      through-append step (b .core) (framerStep (b .line) e .told) (through framerStep (framerStep (b .line) e .next) es .told),
+    )
+    refl
+
+-- So the bytes of a sealed body are one step of the machine, on exactly that packet.
+pub framed-sealed : {S O : Type 0} (step : S → Heard → Done S O) (core : S) (b : List ℕ) → Body b →
+    through (framed step) (record { line = hearing []; core = core }) (map Byte (seal b))
+    ≡ record { next = record { line = hearing []; core = step core (packet b) .next }; told = step core (packet b) .told }
+framed-sealed step core b k =
+    framed-run step (record { line = hearing []; core = core }) (map Byte (seal b)) ∙ rw (packet-found b k, through-one step core (packet b)) refl
+
+-- ---- the data of a body (this law belongs to the crate packet)
+
+pub data-body : (o s t : ℕ) (d : List ℕ) → dataIn (bodyOf o s t d) ≡ d
+unfolding dataIn bodyOf
+data-body o s t d = let e : length d + 4 - 4 ≡ length d = omega arith in rw e (take-length d)
+
+-- ---- the hub's line (these laws belong to the crate hub)
+
+-- Bytes and character gaps only.
+pub data Calm : List Event → Type 0 where
+  ends : Calm []
+  byte : {b : ℕ} {es : List Event} → Calm es → Calm (Byte b ∷ es)
+  gap : {es : List Event} → Calm es → Calm (CharacterGap ∷ es)
+
+calm-append : {es fs : List Event} → Calm es → Calm fs → Calm (es ++ fs)
+calm-append ends d = d
+calm-append (byte c) d = byte (calm-append c d)
+calm-append (gap c) d = gap (calm-append c d)
+
+calm-bytes : (s : List ℕ) → Calm (map Byte s)
+calm-bytes [] = ends
+calm-bytes (x ∷ s) = byte (calm-bytes s)
+
+-- Without a message gap the hub is no more than its joiner behind the framer.
+pub calm-run : {es : List Event} (hub : HubState) → Calm es → through hubStep hub es ≡ through (framed heardStep) hub es
+unfolding through hubStep cleared
+calm-run hub ends = refl
+calm-run hub (byte {b} c) = ap (after (framed heardStep hub (Byte b) .told)) (calm-run (framed heardStep hub (Byte b) .next) c)
+calm-run hub (gap c) = ap (after (framed heardStep hub CharacterGap .told)) (calm-run (framed heardStep hub CharacterGap .next) c)
+
+-- Behind the framer a packet is a packet's step.
+heard-packets : (j : Joiner) (ps : List (List ℕ)) → through heardStep j (map packet ps) ≡ through packetStep j ps
+unfolding through heardStep
+heard-packets j [] = refl
+heard-packets j (p ∷ ps) = ap (after (packetStep j p .told)) (heard-packets (packetStep j p .next) ps)
+
+-- ---- one packet of a message at the hub (these laws belong to the crate hub)
+
+either-true : (a : Bool) → either a true ≡ true
+either-true true = refl
+either-true false = refl
+
+-- A packet of a message, with this status.
+abbrev pub pieceBody : ℕ → ℕ → List ℕ → List ℕ
+pieceBody status code p = bodyOf decodeData reader status (code ∷ p)
+
+module _ (t code : ℕ) (p : List ℕ) where
+  status-in : getD (pieceBody t code p) 3 0 ≡ t
+  unfolding bodyOf
+  status-in = refl
+
+  type-in : typeIn (pieceBody t code p) ≡ code
+  unfolding typeIn
+  type-in = rw (data-body decodeData reader t (code ∷ p)) refl
+
+  piece-in : pieceIn (pieceBody t code p) ≡ p
+  unfolding pieceIn
+  piece-in = rw (data-body decodeData reader t (code ∷ p)) refl
+
+-- The joiner has room for so many bytes of this type.
+pub record Takes (j : Joiner) (code n : ℕ) : Type 0 where
+  pub free : j .barred ≡ false
+  pub same : otherType (j .gathered) code ≡ false
+  pub fits : length (bytesOf (j .gathered)) + n ≤ 4096
+
+-- The joiner behind a packet that was added.
+abbrev pub withPiece : Joiner → ℕ → ℕ → List ℕ → Joiner
+withPiece j t code p = record { barred = false; last = unmarked (pieceBody t code p); gathered = some code (bytesOf (j .gathered) ++ p) }
+
+module _ (j : Joiner) (t code : ℕ) (p : List ℕ) where
+  -- Without its mark a packet is no repeat, whatever was accepted last.
+  pub no-repeat : t % 2 ≡ 0 → resentEqual (j .last) (pieceBody t code p) ≡ false
+  unfolding resentEqual bodyOf
+  no-repeat e = simp (ne-eqb (t % 2) 1 (λ z. omega arith))
+
+  piece-decoded : t < 4 → packetStep j (pieceBody t code p) ≡ decodeStep j (pieceBody t code p)
+  unfolding packetStep isAnswer statusAllowed bodyOf
+  piece-decoded h = simp (eq-eqb (t / 4 % 2) 0 (omega arith), eq-eqb (t / 16) 0 (omega arith), either-true (eqb (t / 2 % 2) 0))
+
+  piece-some : decodeStep j (pieceBody t code p) ≡ joinStep j (pieceBody t code p)
+  unfolding decodeStep
+  piece-some = simp (data-body decodeData reader t (code ∷ p), ne-eqb (length (code ∷ p)) 0 (λ z. omega arith))
+
+  piece-new : j .barred ≡ false → resentEqual (j .last) (pieceBody t code p) ≡ false → joinStep j (pieceBody t code p) ≡ adding j (pieceBody t code p)
+  unfolding joinStep
+  piece-new e r = simp (e, r)
+
+  piece-fits : Takes j code (length p) → adding j (pieceBody t code p) ≡ joined j (pieceBody t code p)
+  unfolding adding
+  piece-fits k = simp (type-in t code p, piece-in t code p, k .same, le-ltb 4096 (length (bytesOf (j .gathered)) + length p) (k .fits))
+
+  -- What is no repeat, and has room, is joined.
+  pub piece-joined : t < 4 → resentEqual (j .last) (pieceBody t code p) ≡ false → Takes j code (length p) →
+      packetStep j (pieceBody t code p) ≡ joined j (pieceBody t code p)
+  piece-joined h r k = piece-decoded h ∙ (piece-some ∙ (piece-new (k .free) r ∙ piece-fits k))
+
+  -- With the more bit it is added; without it, it ends the message, which is handed out.
+  module _ (r : resentEqual (j .last) (pieceBody t code p) ≡ false) (k : Takes j code (length p)) where
+    pub piece-added : t / 2 ≡ 1 → packetStep j (pieceBody t code p) ≡ record { next = withPiece j t code p; told = added ∷ [] }
+    unfolding joined
+    piece-added e = piece-joined (omega arith) r k ∙ simp (status-in t code p, ne-eqb (t / 2 % 2) 0 (λ z. omega arith), type-in t code p, piece-in t code p)
+
+    pub piece-handed : t / 2 ≡ 0 →
+        packetStep j (pieceBody t code p)
+        ≡ record { next = record { barred = false; last = unmarked (pieceBody t code p); gathered = none }; told = handed code (bytesOf (j .gathered) ++ p) ∷ [] }
+    unfolding joined
+    piece-handed e = piece-joined (omega arith) r k ∙ simp (status-in t code p, eq-eqb (t / 2 % 2) 0 (omega arith), type-in t code p, piece-in t code p)
+
+takes-less : {j : Joiner} {code n n′ : ℕ} → n′ ≤ n → Takes j code n → Takes j code n′
+takes-less h k = record { free = k .free; same = k .same; fits = let f = k .fits in omega arith }
+
+takes-rest : (j : Joiner) (t code : ℕ) (p : List ℕ) {n : ℕ} → Takes j code (length p + n) → Takes (withPiece j t code p) code n
+unfolding otherType bytesOf
+takes-rest j t code p k = record { free = refl; same = rw (eq-eqb code code refl) refl; fits = let f = k .fits in simp length-append (omega arith) }
+
+-- ---- all packets of a message at the hub
+
+-- So many pieces added, then this message handed out; nothing is gathered and no bar is set.
+pub record Finishes (code : ℕ) (whole : List ℕ) (n : ℕ) (d : Done Joiner Output) : Type 0 where
+  pub told-is : d .told ≡ replicate n added ++ (handed code whole ∷ [])
+  pub free : d .next .barred ≡ false
+  pub empty : d .next .gathered ≡ none
+
+finishes-after : {code n n′ : ℕ} {whole whole′ : List ℕ} {d : Done Joiner Output} → n′ ≡ suc n → whole′ ≡ whole → Finishes code whole n d →
+    Finishes code whole′ n′ (after (added ∷ []) d)
+unfolding after
+finishes-after e w k = rw (e, w) (record { told-is = ap (λ (l : List Output). added ∷ l) (k .told-is); free = k .free; empty = k .empty })
+
+some-pieces : {m : List ℕ} {ps : List (List ℕ)} → Cut m ps → 1 ≤ length ps
+some-pieces (last h) = omega arith
+some-pieces (more h c) = omega arith
+
+-- The pieces of a message are joined to it, behind what is gathered already.
+pieces-finish : (code : ℕ) {m : List ℕ} {ps : List (List ℕ)} (j : Joiner) → Cut m ps → Takes j code (length m) →
+    Finishes code (bytesOf (j .gathered) ++ m) (length ps - 1) (through packetStep j (bodiesOf code ps))
+unfolding bodiesOf through bytesOf
+pieces-finish code j (last {m} h) k =
+    rw (through-one packetStep j (pieceBody 0 code m), piece-handed j 0 code m (no-repeat j 0 code m refl) k refl) (record { told-is = refl; free = refl; empty = refl })
+pieces-finish code j (more {m} {ps} h c) k =
+    let p = take 250 m in
+    let rest = drop 250 m in
+    let front = length-take-le 250 m (omega arith) in
+    let behind = length-drop 250 m in
+    let some = some-pieces c in
+    let room : Takes j code (length p + length rest) = takes-less (omega arith) k in
+    let e = piece-added j 2 code p (no-repeat j 2 code p refl) (takes-less (omega arith) k) refl in
+    let whole : bytesOf (j .gathered) ++ m ≡ (bytesOf (j .gathered) ++ p) ++ rest =
+    sym (append-assoc (bytesOf (j .gathered)) p rest ∙ rw (take-append-drop 250 m) refl) in
+    rw (bodies-more code p ps (λ z. let l = ap length z in omega arith), e)
+    (finishes-after (omega arith) whole (pieces-finish code (withPiece j 2 code p) c (takes-rest j 2 code p room)))
+
+-- ---- copies on the line
+
+calm-copies : {behind : List Event} → Calm behind → (ps : List (List ℕ)) → Calm (flatMap (copyThen behind) ps)
+unfolding flatMap copyThen
+calm-copies c [] = ends
+calm-copies c (p ∷ ps) = calm-append (calm-append (calm-bytes (seal p)) c) (calm-copies c ps)
+
+-- Behind each copy stands what a framer with nothing begun makes nothing of.
+module _ (behind : List Event) (calm : Calm behind) (q : through framerStep (hearing []) behind ≡ record { next = hearing []; told = [] }) where
+  copy-found : (b : List ℕ) → Body b → through framerStep (hearing []) (copyThen behind b) ≡ record { next = hearing []; told = packet b ∷ [] }
+  unfolding copyThen after
+  copy-found b k = through-append framerStep (hearing []) (map Byte (seal b)) behind ∙ rw (packet-found b k) (rw q refl)
+
+  copies-found : {ps : List (List ℕ)} → Each Body ps → through framerStep (hearing []) (flatMap (copyThen behind) ps) ≡ record { next = hearing []; told = map packet ps }
+  unfolding flatMap through after
+  copies-found no-body = refl
+  copies-found (one {p} {ps} k ks) =
+      through-append framerStep (hearing []) (copyThen behind p) (flatMap (copyThen behind) ps) ∙ rw (copy-found p k) (rw (copies-found ks) refl)
+
+  -- Copies of bodies are what the joiner makes of these, one after the other.
+  pub copies-run : {ps : List (List ℕ)} (hub : HubState) → hub .line ≡ hearing [] → Each Body ps →
+      through hubStep hub (flatMap (copyThen behind) ps)
+      ≡ record { next = record { line = hearing []; core = through packetStep (hub .core) ps .next }; told = through packetStep (hub .core) ps .told }
+  copies-run {ps} hub e ks =
+      calm-run hub (calm-copies calm ps)
+      ∙ (framed-run heardStep hub (flatMap (copyThen behind) ps) ∙ rw (e, copies-found ks, heard-packets (hub .core) ps) refl)
+
+-- ---- the theorem
+
+-- Each of these is answered by an ACK.
+acked : (code : ℕ) (m : List ℕ) (n : ℕ) → map answerBytes (replicate n added ++ (handed code m ∷ [])) ≡ replicate (suc n) (seal (replyBody host Ack))
+unfolding answerBytes
+acked code m zero = refl
+acked code m (suc n) = ap (λ (l : List (List ℕ)). seal (replyBody host Ack) ∷ l) (acked code m n)
+
+module _ (hub : HubState) (code : ℕ) (m : List ℕ) (r : Rests hub) (c : code < 256) (bytes : Bytes m) (few : length m ≤ 4096) where
+  nothing-waits : bytesOf (hub .core .gathered) ≡ []
+  unfolding bytesOf
+  nothing-waits = rw (r .empty) refl
+
+  takes-whole : Takes (hub .core) code (length m)
+  unfolding otherType
+  takes-whole = record { free = r .free; same = rw (r .empty) refl; fits = rw nothing-waits (omega arith) }
+
+  whole-finishes : Finishes code m (length (packetsOf code m) - 1) (through packetStep (hub .core) (packetsOf code m))
+  unfolding packetsOf
+  whole-finishes = rw (packets-number code m) (rw nothing-waits at (pieces-finish code (hub .core) (pieces-are-cut m) takes-whole))
+
+  whole-by : (behind : List Event) → Calm behind → through framerStep (hearing []) behind ≡ record { next = hearing []; told = [] } →
+      TakesIn code m (through hubStep hub (flatMap (copyThen behind) (packetsOf code m)))
+  unfolding wholeTold
+  whole-by behind calm q =
+      let k = whole-finishes in
+      let some = some-pieces (pieces-are-cut m) in
+      let n = packets-number code m in
+      let e : suc (length (packetsOf code m) - 1) ≡ length (packetsOf code m) = omega arith in
+      rw (copies-run behind calm q hub (r .idle) (packets-bodies code m c bytes))
+      (record {
+        told-is = k .told-is;
+        answers = ap (map answerBytes) (k .told-is) ∙ (acked code m (length (packetsOf code m) - 1) ∙ ap (λ (k : ℕ). replicate k (seal (replyBody host Ack))) e);
+        rests = record { idle = refl; free = k .free; empty = k .empty };
+      })
+
+  -- The packets of any message, each copied once, are acknowledged one by one by a hub at rest, which hands out exactly that message and is
+  -- at rest again.
+  pub taken-in : TakesIn code m (through hubStep hub (copiesOf code m))
+  unfolding copiesOf through after framerStep atGap
+  taken-in = whole-by (CharacterGap ∷ []) (gap ends) refl
+
+  -- The gaps are not needed.
+  pub close-taken-in : TakesIn code m (through hubStep hub (closeCopiesOf code m))
+  unfolding closeCopiesOf through
+  close-taken-in = whole-by [] ends refl
+
+-- So it is with a hub just switched on.
+pub switched-on-rests : Rests switchedOn
+switched-on-rests = record { idle = refl; free = refl; empty = refl }
+
+pub whole : (code : ℕ) (m : List ℕ) → code < 256 → Bytes m → length m ≤ 4096 → TakesIn code m (through hubStep switchedOn (copiesOf code m))
+whole code m = taken-in switchedOn code m switched-on-rests
+
+pub close-whole : (code : ℕ) (m : List ℕ) → code < 256 → Bytes m → length m ≤ 4096 → TakesIn code m (through hubStep switchedOn (closeCopiesOf code m))
+close-whole code m = close-taken-in switchedOn code m switched-on-rests

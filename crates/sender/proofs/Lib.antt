@@ -1,0 +1,4 @@
+pub mod Answering
+pub mod Copying
+pub mod Theorems
+pub mod Unique

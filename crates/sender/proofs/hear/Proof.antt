@@ -1,0 +1,28 @@
+-- `sender::hear` meets its contract: 13, then the answer of a sound control value. Assumes nothing.
+use native.Mathlib.Omega.{arith}
+use Rattle.sender.proofs.Answering.{hear-room, sounds-out, hear-answered, hear-nothing}
+use borrow.Author.Needs.{needs}
+use Rattle.sender.proofs.hear.Statement.{statement}
+use Rattle.sender.proofs.hear.Tie as tie
+
+returns : tie.Need-returns
+returns c = hear-room (omega arith)
+
+sound-requires : tie.Need-sound-requires
+sound-requires c κs = search needs
+
+answered-requires : tie.Need-answered-requires
+answered-requires c κs = (sounds-out (c .before .before .before .sound .ensures) (c .before .before .if2 .taken), search needs, omega arith)
+
+same-length : tie.Need-same-length
+same-length c = search needs
+
+returns-2 : tie.Need-returns-2
+returns-2 c = hear-answered (omega arith) (c .before .before .before .before .before .before .sound .ensures) (c .before .before .answered .ensures)
+
+returns-3 : tie.Need-returns-3
+returns-3 c = hear-nothing (omega arith) (c .before .sound .ensures) (c .if2 .left)
+
+pub hear-spec : {M : Type 1} → statement M
+hear-spec =
+    tie.close (tie.spec returns sound-requires answered-requires same-length returns-2 returns-3)

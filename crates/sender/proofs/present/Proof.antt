@@ -1,0 +1,71 @@
+-- `sender::present` meets its contract: a cut piece, or the last one. Assumes nothing.
+use native.Mathlib.Omega.{arith}
+use Rattle.sender.proofs.Copying.{present-cut, present-last}
+use borrow.Author.Needs.{needs}
+use Rattle.sender.proofs.present.Statement.{statement}
+use Rattle.sender.proofs.present.Tie as tie
+
+sub-if1 : tie.Need-sub-if1
+sub-if1 c = search needs
+
+add-cut : tie.Need-add-cut
+add-cut c = search needs
+
+sub-copy : tie.Need-sub-copy
+sub-copy c = search needs
+
+part-copy-start : tie.Need-part-copy-start
+part-copy-start c = search needs
+
+part-copy-end : tie.Need-part-copy-end
+part-copy-end c = search needs
+
+add-copy : tie.Need-add-copy
+add-copy c = search needs
+
+copy-requires : tie.Need-copy-requires
+copy-requires c κs = search needs
+
+same-length : tie.Need-same-length
+same-length c = search needs
+
+returns : tie.Need-returns
+returns c = present-cut (c .before .before .before .before .before .before .before .before .pre .0) (omega arith) (omega arith) (c .before .before .copy .ensures)
+
+sub-copy-2 : tie.Need-sub-copy-2
+sub-copy-2 c = search needs
+
+part-copy-start-2 : tie.Need-part-copy-start-2
+part-copy-start-2 c = search needs
+
+part-copy-end-2 : tie.Need-part-copy-end-2
+part-copy-end-2 c = search needs
+
+copy-requires-2 : tie.Need-copy-requires-2
+copy-requires-2 c κs = search needs
+
+same-length-2 : tie.Need-same-length-2
+same-length-2 c = search needs
+
+returns-2 : tie.Need-returns-2
+returns-2 c = present-last (c .before .before .before .before .before .before .before .before .pre .0) (omega arith) (omega arith) (c .before .before .copy2 .ensures)
+
+pub present-spec : {M : Type 1} → statement M
+present-spec =
+    tie.close
+    (tie.spec
+    sub-if1
+    add-cut
+    sub-copy
+    part-copy-start
+    part-copy-end
+    add-copy
+    copy-requires
+    same-length
+    returns
+    sub-copy-2
+    part-copy-start-2
+    part-copy-end-2
+    copy-requires-2
+    same-length-2
+    returns-2)

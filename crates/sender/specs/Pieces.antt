@@ -1,0 +1,25 @@
+-- Document 01, 'Decode data': how a message is cut into packets.
+use Prim.Native.Nat.{ℕ, zero, suc, _/_}
+use mathlib.Core.List.{List, [], _∷_}
+use lib.Dec.{leb}
+use lib.ListN.{length, take, drop}
+use Rattle.words.specs.Lists.{pick}
+use Rattle.packet.specs.Opcodes.{reader, decodeData}
+use Rattle.packet.specs.Packet.{bodyOf}
+
+-- Pieces hold 250 bytes, the last one the rest; an empty message is one piece. k bounds how many more there can be.
+unfoldable pub cutBy : ℕ → List ℕ → List (List ℕ)
+cutBy zero m = m ∷ []
+cutBy (suc k) m = pick (leb (length m) 250) (m ∷ []) (take 250 m ∷ cutBy k (drop 250 m))
+
+unfoldable pub piecesOf : List ℕ → List (List ℕ)
+piecesOf m = cutBy (length m / 250) m
+
+-- Every piece carries the type; all but the last have the more bit.
+unfoldable pub bodiesOf : ℕ → List (List ℕ) → List (List ℕ)
+bodiesOf code [] = []
+bodiesOf code (p ∷ []) = bodyOf decodeData reader 0 (code ∷ p) ∷ []
+bodiesOf code (p ∷ q ∷ ps) = bodyOf decodeData reader 2 (code ∷ p) ∷ bodiesOf code (q ∷ ps)
+
+unfoldable pub packetsOf : ℕ → List ℕ → List (List ℕ)
+packetsOf code m = bodiesOf code (piecesOf m)

@@ -1,0 +1,87 @@
+-- Document 01, 'Sender': copies and resends of the packets of one message.
+use Prim.Native.Nat.{ℕ, _+_, _/_}
+use mathlib.Core.Bool.{Bool, true, false}
+use mathlib.Core.List.{List, [], _∷_}
+use lib.Dec.{eqb, ltb}
+use lib.ListN.{length, getD}
+use Rattle.words.specs.Lists.{pick, both, either}
+use Rattle.words.specs.Machine.{Done}
+use Rattle.packet.specs.Opcodes.{host, cmdAck, cmdNak}
+use Rattle.packet.specs.Packet.{marked}
+use Rattle.packet.specs.declared.Refusal.{Refusal}
+use Rattle.packet.specs.declared.Refusal.the-variants.{Start}
+use Rattle.sender.specs.Pieces.{packetsOf}
+use Rattle.sender.specs.declared.Heard.{Heard}
+use Rattle.sender.specs.declared.Heard.the-variants.{Ack, Nak, TimeOut, Nothing}
+
+-- The packets still to be acknowledged, the present one first (none: no message is out); how often the present one was resent; the
+-- marked copies written for this message; and whether the message before failed.
+pub record SenderState : Type 0 where
+  pub queue : List (List ℕ)
+  pub resends : ℕ
+  pub copies : ℕ
+  pub failed : Bool
+
+-- What the sender gives out: a copy of a packet (its body), the end of a message with the number of its marked copies, or a refusal.
+pub data Sent : Type 0 where
+  copy : List ℕ → Sent
+  delivered : ℕ → Sent
+  failed : ℕ → Sent
+  refused : Refusal → Sent
+
+abbrev pub nothingOut : Bool → SenderState
+nothingOut f = record { queue = []; resends = 0; copies = 0; failed = f }
+
+abbrev pub ignores : SenderState → Done SenderState Sent
+ignores s = record { next = s; told = [] }
+
+-- Whether a message is out.
+unfoldable pub some : List (List ℕ) → Bool
+some [] = false
+some (p ∷ ps) = true
+
+abbrev pub waits : SenderState → Bool
+waits s = some (s .queue)
+
+-- Is a message gap due before the first packet of the next message?
+unfoldable pub gapDue : SenderState → Bool
+gapDue s = s .failed
+
+-- A start: 11 for a message over 4,096 bytes, or one still out; else the first copy.
+unfoldable pub begins : List (List ℕ) → SenderState → Done SenderState Sent
+begins [] s = ignores s
+begins (p ∷ ps) s = record { next = record { queue = p ∷ ps; resends = 0; copies = 0; failed = false }; told = copy p ∷ [] }
+
+unfoldable pub startStep : SenderState → ℕ → List ℕ → Done SenderState Sent
+startStep s code m =
+    pick (either (ltb 4096 (length m)) (waits s)) (record { next = s; told = refused Start ∷ [] }) (begins (packetsOf code m) s)
+
+-- NAK 1 or a time-out resends with bit 0 set, at most twice; then failed.
+unfoldable pub fails : SenderState → Done SenderState Sent
+fails s = record { next = nothingOut true; told = failed (s .copies) ∷ [] }
+
+unfoldable pub resends : List ℕ → SenderState → Done SenderState Sent
+resends p s =
+    pick (ltb (s .resends) 2)
+    (record { next = record { queue = s .queue; resends = s .resends + 1; copies = s .copies + 1; failed = s .failed }; told = copy (marked p) ∷ [] })
+    (fails s)
+
+-- ACK goes on to the next packet or reports delivered. Another NAK cause fails at once. With nothing out, all of these do nothing.
+unfoldable pub answered : List (List ℕ) → SenderState → Heard → Done SenderState Sent
+answered [] s h = ignores s
+answered (p ∷ []) s Ack = record { next = nothingOut false; told = delivered (s .copies) ∷ [] }
+answered (p ∷ q ∷ ps) s Ack = record { next = record { queue = q ∷ ps; resends = 0; copies = s .copies; failed = s .failed }; told = copy q ∷ [] }
+answered (p ∷ ps) s (Nak cause) = pick (eqb cause 1) (resends p s) (fails s)
+answered (p ∷ ps) s TimeOut = resends p s
+answered (p ∷ ps) s Nothing = ignores s
+
+unfoldable pub senderStep : SenderState → Heard → Done SenderState Sent
+senderStep s h = answered (s .queue) s h
+
+-- The sender heeds only a host's ACK without data or NAK with one byte, status 0 or 1; others do nothing.
+unfoldable pub heedOf : ℕ → ℕ → ℕ → List ℕ → Heard
+heedOf opcode source status carried =
+    pick (both (eqb source host) (eqb (status / 2) 0))
+    (pick (both (eqb opcode cmdAck) (eqb (length carried) 0)) Ack
+    (pick (both (eqb opcode cmdNak) (eqb (length carried) 1)) (Nak (getD carried 0 0)) Nothing))
+    Nothing

@@ -1,0 +1,5 @@
+pub mod Answering
+pub mod Finding
+pub mod Setting
+pub mod Theorems
+pub mod Unique

@@ -1,0 +1,157 @@
+-- What the calls that make and change a table leave in it: one law for each `return`, and what the loops over the pairs keep.
+-- The pairs of an even number of bytes are read two bytes further at each turn. Assumes nothing.
+use Prim.Native.Nat.{ℕ, suc, _+_, _%_, _≤_, _<_}
+use mathlib.Core.Path.{_≡_, refl, sym, ap, _∙_}
+use mathlib.Core.Bool.{Bool, true, false}
+use mathlib.Core.List.{List, [], _∷_}
+use native.Mathlib.Numerals.{add-one}
+use native.Mathlib.Omega.{arith}
+use lib.ListN.{length, getD, drop, set, length-drop, length-set, drop-of-length-le}
+use lib.Seq.{drop-cons, set-out}
+use Rattle.packet.specs.declared.Refusal.the-variants.{Data, Setting}
+use Rattle.table.specs.Rows.{rows, placeOf}
+use Rattle.table.specs.Table.{Pair, wrongLength, pairs, behind, readPairs, allAllowed, setAll, changed, setPairs, defaults, powerUp}
+use Rattle.table.specs.Promises.{Defaults, PowerUp, Sets, House, Place, Allowed, Even, Judges, Full, Puts, PutsAll, Changes, pairsOf, changedOf}
+use Rattle.table.specs.declared.Table.{Table}
+use Rattle.table.specs.declared.Changed.{Changed}
+use Rattle.table.specs.declared.Verdict.the-variants.{Done, Refused}
+
+pub defaults-made : {values : List ℕ} → House values → Defaults (record { present = values; permanent = values })
+unfolding defaults
+defaults-made {values} h = record { is = rw (h .is) refl }
+
+pub powered-up : {t : Table} → PowerUp t (record { present = t .permanent; permanent = t .permanent })
+unfolding powerUp
+powered-up = record { is = refl }
+
+-- ---- reading pairs
+
+pub read-even : (bytes : List ℕ) → length bytes % 2 ≡ 0 → readPairs bytes ≡ pairs (pairsOf (readPairs bytes))
+unfolding readPairs behind pairsOf
+read-even [] e = refl
+read-even (n ∷ []) e = absurd (omega arith)
+read-even (n ∷ v ∷ rest) e = rw (read-even rest (omega arith)) refl
+
+pub read-odd : (bytes : List ℕ) → (length bytes % 2 ≡ 0 → ⊥) → readPairs bytes ≡ wrongLength
+unfolding readPairs behind
+read-odd [] d = absurd (d refl)
+read-odd (n ∷ []) d = refl
+read-odd (n ∷ v ∷ rest) d = rw (read-odd rest (λ e. d (omega arith))) refl
+
+-- The pair that stands at i.
+abbrev pub pairAt : List ℕ → ℕ → Pair
+pairAt bytes i = record { number = getD bytes i 0; value = getD bytes (i + 1) 0 }
+
+-- A whole number of pairs, of which a whole number is passed.
+pub record Within (bytes : List ℕ) (i : ℕ) : Type 0 where
+  pub at : i ≤ length bytes
+  pub whole : length bytes % 2 ≡ 0
+  pub even : i % 2 ≡ 0
+
+pub within-none : {bytes : List ℕ} → Even bytes → Within bytes 0
+within-none e = record { at = omega arith; whole = e .is; even = refl }
+
+pub within-more : {bytes : List ℕ} {i : ℕ} → Within bytes i → i < length bytes → Within bytes (i + 2)
+within-more w h = record { at = omega (arith, w .whole, w .even); whole = w .whole; even = omega (arith, w .even) }
+
+pairs-cons : (n v : ℕ) (rest : List ℕ) → length rest % 2 ≡ 0 →
+    pairsOf (readPairs (n ∷ v ∷ rest)) ≡ (record { number = n; value = v } ∷ pairsOf (readPairs rest))
+unfolding readPairs behind pairsOf
+pairs-cons n v rest e = rw (read-even rest e) refl
+
+drop-two : (bytes : List ℕ) (i : ℕ) → i + 1 < length bytes → drop i bytes ≡ getD bytes i 0 ∷ getD bytes (i + 1) 0 ∷ drop (i + 2) bytes
+drop-two bytes i h =
+    let two : i + 2 ≡ suc (suc i) = omega arith in
+    rw (two, add-one i, drop-cons bytes i 0 (omega arith), drop-cons bytes (suc i) 0 (omega arith)) refl
+
+pub read-step : {bytes : List ℕ} {i : ℕ} → Within bytes i → i < length bytes →
+    pairsOf (readPairs (drop i bytes)) ≡ (pairAt bytes i ∷ pairsOf (readPairs (drop (i + 2) bytes)))
+read-step {bytes} {i} w h =
+    let m = within-more w h in
+    let l = length-drop (i + 2) bytes in
+    rw (drop-two bytes i (omega (arith, m .at)))
+    (pairs-cons (getD bytes i 0) (getD bytes (i + 1) 0) (drop (i + 2) bytes) (omega (arith, m .at, m .whole, m .even)))
+
+pub read-end : (bytes : List ℕ) (i : ℕ) → length bytes ≤ i → pairsOf (readPairs (drop i bytes)) ≡ []
+unfolding readPairs pairsOf
+read-end bytes i h = rw (drop-of-length-le bytes {i = i} h) refl
+
+-- ---- `all_allowed`
+
+-- Every pair passed is allowed, so the judgement is that of the rest.
+pub record Judging (bytes : List ℕ) (i : ℕ) : Type 0 where
+  pub within : Within bytes i
+  pub rest : allAllowed (pairsOf (readPairs bytes)) ≡ allAllowed (pairsOf (readPairs (drop i bytes)))
+
+pub judging-none : {bytes : List ℕ} → Even bytes → Judging bytes 0
+judging-none e = record { within = within-none e; rest = refl }
+
+module _ {bytes : List ℕ} {i : ℕ} {r : Bool} (k : Judging bytes i) (h : i < length bytes) (a : Allowed (getD bytes i 0) (getD bytes (i + 1) 0) r) where
+  pub judging-more : r ≡ true → Judging bytes (i + 2)
+  unfolding allAllowed
+  judging-more e =
+      record { within = within-more (k .within) h; rest = k .rest ∙ rw (read-step (k .within) h) (simp (sym (a .is) ∙ e)) }
+
+  pub judging-bad : r ≡ false → Judges bytes false
+  unfolding allAllowed
+  judging-bad e = record { is = sym (k .rest ∙ rw (read-step (k .within) h) (simp (sym (a .is) ∙ e))) }
+
+pub judging-all : {bytes : List ℕ} {i : ℕ} → Judging bytes i → length bytes ≤ i → Judges bytes true
+unfolding allAllowed
+judging-all {bytes} {i} k h = record { is = sym (k .rest ∙ rw (read-end bytes i h) refl) }
+
+-- ---- `put` and `put_all`
+
+pub put-at : {values : List ℕ} {number value at : ℕ} → Place number at → Puts values number value (set values at value)
+put-at {values} {value = value} p = record { is = ap (λ (i : ℕ). set values i value) (p .is) }
+
+pub put-none : {values : List ℕ} {number value at : ℕ} → Full values → Place number at → length rows ≤ at → Puts values number value values
+put-none {values} {number} {value} f p h = record { is = sym (set-out values (placeOf number) value (omega (arith, f .is, p .is))) }
+
+-- The pairs passed are set, so what is left to set are those of the rest.
+pub record Putting (values bytes next : List ℕ) (i : ℕ) : Type 0 where
+  pub within : Within bytes i
+  pub full : Full next
+  pub rest : setAll (pairsOf (readPairs bytes)) values ≡ setAll (pairsOf (readPairs (drop i bytes))) next
+
+pub putting-none : {values bytes : List ℕ} → Even bytes → length values ≡ length rows → Putting values bytes values 0
+putting-none e l = record { within = within-none e; full = record { is = l }; rest = refl }
+
+pub putting-more : {values bytes next next′ : List ℕ} {i : ℕ} → Putting values bytes next i → i < length bytes →
+    Puts next (getD bytes i 0) (getD bytes (i + 1) 0) next′ → Putting values bytes next′ (i + 2)
+unfolding setAll
+putting-more k h p =
+    record {
+      within = within-more (k .within) h;
+      full = record { is = rw (p .is) (simp length-set (k .full .is)) };
+      rest = k .rest ∙ rw (read-step (k .within) h, p .is) refl;
+    }
+
+pub putting-all : {values bytes next : List ℕ} {i : ℕ} → Putting values bytes next i → length bytes ≤ i → PutsAll values bytes next
+unfolding setAll
+putting-all {bytes = bytes} {i = i} k h = record { is = sym (k .rest ∙ rw (read-end bytes i h) refl) }
+
+-- ---- `change` and `set`
+
+module _ {t : Table} {bytes present : List ℕ} {forever : Bool} (p : PutsAll (t .present) bytes present) where
+  pub changed-present : forever ≡ false → Changes t bytes forever (record { table = record { present = present; permanent = t .permanent }; verdict = Done })
+  unfolding changed
+  changed-present e = record { is = rw (p .is, e) refl }
+
+  pub changed-both : {permanent : List ℕ} → forever ≡ true → PutsAll (t .permanent) bytes permanent →
+      Changes t bytes forever (record { table = record { present = present; permanent = permanent }; verdict = Done })
+  unfolding changed
+  changed-both e q = record { is = rw (p .is, q .is, e) refl }
+
+pub set-length : {t : Table} {bytes : List ℕ} {forever : Bool} → (length bytes % 2 ≡ 0 → ⊥) → Sets t bytes forever (record { table = t; verdict = Refused Data })
+unfolding changedOf setPairs
+set-length {t} {bytes} d = record { is = rw (read-odd bytes d) refl }
+
+module _ {t : Table} {bytes : List ℕ} {forever r : Bool} (e : length bytes % 2 ≡ 0) (j : Judges bytes r) where
+  pub set-refused : r ≡ false → Sets t bytes forever (record { table = t; verdict = Refused Setting })
+  unfolding changedOf setPairs
+  set-refused f = record { is = rw (read-even bytes e) (simp (sym (j .is) ∙ f)) }
+
+  pub set-done : {x : Changed} → r ≡ true → Changes t bytes forever x → Sets t bytes forever x
+  unfolding changedOf setPairs pairsOf
+  set-done f p = record { is = p .is ∙ rw (read-even bytes e) (simp (sym (j .is) ∙ f)) }

@@ -1,0 +1,329 @@
+-- The theorems over the table's definitions: what a list of settings changes and what it leaves, that every value stays allowed,
+-- and what an answer names. Assumes nothing.
+use Prim.Native.Nat.{ℕ, zero, suc, _+_, _*_, _≤_, _<_}
+use mathlib.Core.Path.{_≡_, refl, sym, _∙_}
+use mathlib.Core.Bool.{Bool, true, false, not}
+use mathlib.Core.List.{List, [], _∷_, _++_}
+use native.Mathlib.Omega.{arith}
+use lib.Dec.{eqb, ltb}
+use lib.ListN.{length, getD, set, replicate, length-set, length-replicate, getD-replicate}
+use lib.Seq.{getD-set-same, getD-set-other}
+use borrow.Author.Tests.{eq-eqb, ne-eqb, eqb-true, eqb-false, ltb-true, not-true}
+use Rattle.words.specs.Lists.{pick, both, either}
+use Rattle.words.proofs.Lists.{both-left, both-right, both-false}
+use Rattle.packet.specs.declared.Refusal.{Refusal}
+use Rattle.packet.specs.declared.Refusal.the-variants.{Setting, Room}
+use Rattle.table.specs.Rows.{rows, placeIn, placeOf, supported, triggerAllowed, rangeAllowed, allowed, defaultsOf}
+use Rattle.table.specs.Table.{Values, Pair, Reading, wrongLength, pairs, allAllowed, setAll, changed, done, refused, setPairs, defaults, powerUp, member, askedFor, numbersOf, answeredNumbers, answerData}
+use Rattle.table.specs.Promises.{Answers, valuesOf, changedOf, marks}
+use Rattle.table.specs.declared.Table.{Table}
+use Rattle.table.specs.declared.Written.{Written}
+use Rattle.table.specs.declared.Written.the-variants.{Bytes, Refused}
+use Rattle.table.proofs.Finding.{number-at, same-place, length-defaults}
+use Rattle.table.proofs.Answering.{marks-set, marks-most, marks-none, marked-by, member-append, length-pairs, either-true}
+
+-- ---- what a list of settings changes
+
+-- Whether a pair of the list names the number.
+unfoldable pub named : ℕ → List Pair → Bool
+named n [] = false
+named n (p ∷ ps) = either (eqb (p .number) n) (named n ps)
+
+placed-in : (n : ℕ) → supported n ≡ true → placeOf n < length rows
+unfolding supported
+placed-in n s = ltb-true (placeOf n) (length rows) s
+
+either-left : (a b : Bool) → either a b ≡ false → a ≡ false
+either-left true b e = e
+either-left false b e = refl
+
+either-right : (a b : Bool) → either a b ≡ false → b ≡ false
+either-right true b e = cc
+either-right false b e = e
+
+set-kept : (ps : List Pair) (values : List ℕ) (n : ℕ) → supported n ≡ true → named n ps ≡ false → getD (setAll ps values) (placeOf n) 0 ≡ getD values (placeOf n) 0
+unfolding setAll named
+set-kept [] values n s e = refl
+set-kept (p ∷ ps) values n s e =
+    let d = eqb-false (p .number) n (either-left (eqb (p .number) n) (named n ps) e) in
+    set-kept ps (set values (placeOf (p .number)) (p .value)) n s (either-right (eqb (p .number) n) (named n ps) e)
+    ∙ getD-set-other values (placeOf (p .number)) (placeOf n) (p .value) 0 (λ q. d (sym (same-place n (p .number) (placed-in n s) q)))
+
+-- A number not named keeps both values.
+pub unnamed-kept : (forever : Bool) (ps : List Pair) (t : Values) (n : ℕ) → supported n ≡ true → named n ps ≡ false →
+    (getD (changed forever ps t .present) (placeOf n) 0 ≡ getD (t .present) (placeOf n) 0)
+    × (getD (changed forever ps t .permanent) (placeOf n) 0 ≡ getD (t .permanent) (placeOf n) 0)
+unfolding changed
+unnamed-kept true ps t n s e = (set-kept ps (t .present) n s e, set-kept ps (t .permanent) n s e)
+unnamed-kept false ps t n s e = (set-kept ps (t .present) n s e, refl)
+
+-- A refused list changes nothing.
+pub refused-changes-nothing : (t : Table) (r : Refusal) → changedOf t (refused r) .table ≡ t
+unfolding changedOf
+refused-changes-nothing t r = refl
+
+-- One bad pair, wherever it stands, refuses the whole list.
+bad-in : (ps qs : List Pair) (p : Pair) → allowed (p .number) (p .value) ≡ false → allAllowed (ps ++ (p ∷ qs)) ≡ false
+unfolding allAllowed
+bad-in [] qs p e = simp e
+bad-in (x ∷ ps) qs p e = both-false (allowed (x .number) (x .value)) (allAllowed (ps ++ (p ∷ qs))) (bad-in ps qs p e)
+
+pub bad-pair-refuses : (forever : Bool) (ps qs : List Pair) (p : Pair) (t : Values) → allowed (p .number) (p .value) ≡ false →
+    setPairs forever (pairs (ps ++ (p ∷ qs))) t ≡ refused Setting
+unfolding setPairs
+bad-pair-refuses forever ps qs p t e = simp (bad-in ps qs p e)
+
+-- Without bit 3 no permanent value changes.
+pub temporary-stays-temporary : (ps : List Pair) (t : Values) → changed false ps t .permanent ≡ t .permanent
+unfolding changed
+temporary-stays-temporary ps t = refl
+
+-- A list of settings leaves as many values as there were.
+pub length-set-all : (ps : List Pair) (values : List ℕ) → length (setAll ps values) ≡ length values
+unfolding setAll
+length-set-all [] values = refl
+length-set-all (p ∷ ps) values = length-set-all ps (set values (placeOf (p .number)) (p .value)) ∙ length-set values (placeOf (p .number)) (p .value)
+
+-- Two lists one after the other set what the whole list sets.
+pub set-all-append : (ps qs : List Pair) (values : List ℕ) → setAll (ps ++ qs) values ≡ setAll qs (setAll ps values)
+unfolding setAll
+set-all-append [] qs values = refl
+set-all-append (p ∷ ps) qs values = set-all-append ps qs (set values (placeOf (p .number)) (p .value))
+
+-- Of a number named twice the later value holds: whatever came before, and whatever comes after that names it no more.
+pub later-holds : (ps qs : List Pair) (p : Pair) (values : List ℕ) → supported (p .number) ≡ true → length values ≡ length rows → named (p .number) qs ≡ false →
+    getD (setAll (ps ++ (p ∷ qs)) values) (placeOf (p .number)) 0 ≡ p .value
+unfolding setAll
+later-holds ps qs p values s l e =
+    let i = placeOf (p .number) in
+    let inside : i < length (setAll ps values) = let z = placed-in (p .number) s in let w = length-set-all ps values in omega arith in
+    rw (set-all-append ps (p ∷ qs) values)
+    (set-kept qs (set (setAll ps values) i (p .value)) (p .number) s e ∙ getD-set-same (setAll ps values) i (p .value) 0 inside)
+
+-- The last pair of a list holds.
+pub last-holds : (ps : List Pair) (p : Pair) (values : List ℕ) → supported (p .number) ≡ true → length values ≡ length rows →
+    getD (setAll (ps ++ (p ∷ [])) values) (placeOf (p .number)) 0 ≡ p .value
+unfolding named
+last-holds ps p values s l = later-holds ps [] p values s l refl
+
+-- ---- every value stays allowed
+
+-- Each row's number and its value are allowed.
+pub record AllAllowedIn (values : List ℕ) : Type 0 where
+  pub long : length values ≡ length rows
+  pub each : (i : ℕ) → i < length rows → allowed (getD (getD rows i []) 0 0) (getD values i 0) ≡ true
+
+-- A test that antt computes over the whole table, and the rule that it gives.
+unfoldable defaultsAllowed : List (List ℕ) → Bool
+defaultsAllowed [] = true
+defaultsAllowed (row ∷ rest) = both (allowed (getD row 0 0) (getD row 3 0)) (defaultsAllowed rest)
+
+default-allowed : (table : List (List ℕ)) → defaultsAllowed table ≡ true → (i : ℕ) → i < length table →
+    allowed (getD (getD table i []) 0 0) (getD (defaultsOf table) i 0) ≡ true
+unfolding defaultsAllowed defaultsOf
+default-allowed [] t i h = absurd (omega arith)
+default-allowed (row ∷ rest) t zero h = both-left (allowed (getD row 0 0) (getD row 3 0)) (defaultsAllowed rest) t
+default-allowed (row ∷ rest) t (suc i) h =
+    default-allowed rest (both-right (allowed (getD row 0 0) (getD row 3 0)) (defaultsAllowed rest) t) i (omega arith)
+
+defaults-tested : defaultsAllowed rows ≡ true
+unfolding defaultsAllowed rows allowed supported rangeAllowed triggerAllowed placeIn
+defaults-tested = refl
+
+-- The house defaults are allowed.
+pub defaults-allowed : AllAllowedIn (defaultsOf rows)
+defaults-allowed = record { long = length-defaults rows; each = default-allowed rows defaults-tested }
+
+supported-of : (n v : ℕ) → allowed n v ≡ true → supported n ≡ true
+unfolding allowed
+supported-of n v e = both-left (supported n) _ e
+
+set-one-at : (values : List ℕ) (n v : ℕ) → AllAllowedIn values → allowed n v ≡ true → (i : ℕ) → i < length rows → (d : Bool) → eqb i (placeOf n) ≡ d →
+    allowed (getD (getD rows i []) 0 0) (getD (set values (placeOf n) v) i 0) ≡ true
+set-one-at values n v k a i h true e =
+    let p = placed-in n (supported-of n v a) in
+    rw (eqb-true i (placeOf n) e, number-at rows n p, getD-set-same values (placeOf n) v 0 (omega (arith, k .long))) a
+set-one-at values n v k a i h false e = rw (getD-set-other values (placeOf n) i v 0 (eqb-false i (placeOf n) e)) (k .each i h)
+
+set-one-allowed : (values : List ℕ) (n v : ℕ) → AllAllowedIn values → allowed n v ≡ true → AllAllowedIn (set values (placeOf n) v)
+set-one-allowed values n v k a =
+    record { long = length-set values (placeOf n) v ∙ k .long; each = λ i h. set-one-at values n v k a i h (eqb i (placeOf n)) refl }
+
+-- A list of allowed pairs keeps every value allowed.
+pub set-all-allowed : (ps : List Pair) (values : List ℕ) → AllAllowedIn values → allAllowed ps ≡ true → AllAllowedIn (setAll ps values)
+unfolding setAll allAllowed
+set-all-allowed [] values k a = k
+set-all-allowed (p ∷ ps) values k a =
+    set-all-allowed ps (set values (placeOf (p .number)) (p .value))
+    (set-one-allowed values (p .number) (p .value) k (both-left (allowed (p .number) (p .value)) (allAllowed ps) a))
+    (both-right (allowed (p .number) (p .value)) (allAllowed ps) a)
+
+-- The same of a table, present and permanent.
+pub record AllAllowed (t : Values) : Type 0 where
+  pub present : AllAllowedIn (t .present)
+  pub permanent : AllAllowedIn (t .permanent)
+
+changed-allowed : (forever : Bool) (ps : List Pair) (t : Values) → AllAllowed t → allAllowed ps ≡ true → AllAllowed (changed forever ps t)
+unfolding changed
+changed-allowed true ps t k a = record { present = set-all-allowed ps (t .present) (k .present) a; permanent = set-all-allowed ps (t .permanent) (k .permanent) a }
+changed-allowed false ps t k a = record { present = set-all-allowed ps (t .present) (k .present) a; permanent = k .permanent }
+
+done-by : (forever : Bool) (ps : List Pair) (t t′ : Values) → AllAllowed t → (d : Bool) → allAllowed ps ≡ d →
+    pick d (done (changed forever ps t)) (refused Setting) ≡ done t′ → AllAllowed t′
+done-by forever ps t t′ k true a e = let z : changed forever ps t ≡ t′ = cc in rw z at (changed-allowed forever ps t k a)
+done-by forever ps t t′ k false a e = absurd (let z : _≡_ {A = ℕ} 0 1 = cc in omega arith)
+
+-- An accepted list keeps every value of a table allowed.
+pub accepted-allowed : (forever : Bool) (reading : Reading) (t t′ : Values) → AllAllowed t → setPairs forever reading t ≡ done t′ → AllAllowed t′
+unfolding setPairs
+accepted-allowed forever wrongLength t t′ k e = absurd (let z : _≡_ {A = ℕ} 0 1 = cc in omega arith)
+accepted-allowed forever (pairs ps) t t′ k e = done-by forever ps t t′ k (allAllowed ps) refl e
+
+-- The tables that are made from the defaults by accepted lists and power-ups.
+pub data Reached : Values → Type 0 where
+  at-first : Reached defaults
+  by-list : {t t′ : Values} (forever : Bool) (reading : Reading) → Reached t → setPairs forever reading t ≡ done t′ → Reached t′
+  by-power-up : {t : Values} → Reached t → Reached (powerUp t)
+
+-- Every value in such a table is allowed.
+pub reached-allowed : {t : Values} → Reached t → AllAllowed t
+unfolding defaults powerUp
+reached-allowed at-first = record { present = defaults-allowed; permanent = defaults-allowed }
+reached-allowed (by-list {t} {t′} forever reading r e) = accepted-allowed forever reading t t′ (reached-allowed r) e
+reached-allowed (by-power-up r) = let k = reached-allowed r in record { present = k .permanent; permanent = k .permanent }
+
+-- ---- what an answer names
+
+-- No number stands twice; every number is supported; each is above the one before.
+unfoldable pub distinct : List ℕ → Bool
+distinct [] = true
+distinct (n ∷ ns) = both (not (member n ns)) (distinct ns)
+
+unfoldable pub allSupported : List ℕ → Bool
+allSupported [] = true
+allSupported (n ∷ ns) = both (supported n) (allSupported ns)
+
+unfoldable pub risingFrom : ℕ → List ℕ → Bool
+risingFrom m [] = true
+risingFrom m (n ∷ ns) = both (ltb m n) (risingFrom n ns)
+
+unfoldable pub rising : List ℕ → Bool
+rising [] = true
+rising (n ∷ ns) = risingFrom n ns
+
+-- Each number once, and only supported ones.
+pub record Once (ns : List ℕ) : Type 0 where
+  pub once : distinct ns ≡ true
+  pub known : allSupported ns ≡ true
+
+distinct-more : (ns : List ℕ) (n : ℕ) → distinct ns ≡ true → member n ns ≡ false → distinct (ns ++ (n ∷ [])) ≡ true
+unfolding distinct member
+distinct-more [] n d m = refl
+distinct-more (x ∷ xs) n d m =
+    let other : eqb n x ≡ false = ne-eqb n x (λ q. eqb-false x n (either-left (eqb x n) (member n xs) m) (sym q)) in
+    let new = not-true (member x xs) (both-left (not (member x xs)) (distinct xs) d) in
+    simp
+    (member-append x xs (n ∷ []), new, other, distinct-more xs n (both-right (not (member x xs)) (distinct xs) d) (either-right (eqb x n) (member n xs) m))
+
+supported-more : (ns : List ℕ) (n : ℕ) → allSupported ns ≡ true → supported n ≡ true → allSupported (ns ++ (n ∷ [])) ≡ true
+unfolding allSupported
+supported-more [] n a s = simp s
+supported-more (x ∷ xs) n a s =
+    simp (both-left (supported x) (allSupported xs) a, supported-more xs n (both-right (supported x) (allSupported xs) a) s)
+
+once-by : (sofar : List ℕ) (n : ℕ) → Once sofar → (d : Bool) → both (supported n) (not (member n sofar)) ≡ d → Once (pick d (sofar ++ (n ∷ [])) sofar)
+once-by sofar n k true e =
+    record {
+      once = distinct-more sofar n (k .once) (not-true (member n sofar) (both-right (supported n) (not (member n sofar)) e));
+      known = supported-more sofar n (k .known) (both-left (supported n) (not (member n sofar)) e);
+    }
+once-by sofar n k false e = k
+
+asked-once : (sofar ns : List ℕ) → Once sofar → Once (askedFor sofar ns)
+unfolding askedFor
+asked-once sofar [] k = k
+asked-once sofar (n ∷ ns) k =
+    asked-once (pick (both (supported n) (not (member n sofar))) (sofar ++ (n ∷ [])) sofar) ns
+    (once-by sofar n k (both (supported n) (not (member n sofar))) refl)
+
+rows-once : Once (numbersOf rows)
+unfolding distinct member allSupported supported numbersOf placeIn rows
+rows-once = record { once = refl; known = refl }
+
+answered-by : (asked : List ℕ) (d : Bool) → Once (pick d (numbersOf rows) (askedFor [] asked))
+unfolding distinct allSupported
+answered-by asked true = rows-once
+answered-by asked false = asked-once [] asked (record { once = refl; known = refl })
+
+-- The answer names each number at most once, and only supported ones.
+pub answer-names-once : (asked : List ℕ) → Once (answeredNumbers asked)
+unfolding answeredNumbers
+answer-names-once asked = answered-by asked (member 0xFE asked)
+
+-- Numbers that stand once and are supported mark as many rows.
+record Marked (ns : List ℕ) : Type 0 where
+  seen : List Bool
+  long : length seen ≡ length rows
+  count : marks seen ≡ length ns
+  same : (m : ℕ) → supported m ≡ true → getD seen (placeOf m) false ≡ member m ns
+
+either-swap : (a b : Bool) → either a (either b false) ≡ either b a
+either-swap true true = refl
+either-swap true false = refl
+either-swap false true = refl
+either-swap false false = refl
+
+marked : (ns : List ℕ) → distinct ns ≡ true → allSupported ns ≡ true → Marked ns
+unfolding distinct allSupported member
+marked [] d a =
+    record {
+      seen = replicate (length rows) false;
+      long = length-replicate (length rows) false;
+      count = marks-none (length rows);
+      same = λ m s. getD-replicate (length rows) (placeOf m) false false (placed-in m s);
+    }
+marked (n ∷ ns) d a =
+    let k = marked ns (both-right (not (member n ns)) (distinct ns) d) (both-right (supported n) (allSupported ns) a) in
+    let s = both-left (supported n) (allSupported ns) a in
+    let new = not-true (member n ns) (both-left (not (member n ns)) (distinct ns) d) in
+    let inside : placeOf n < length (k .seen) = let z = placed-in n s in omega (arith, k .long) in
+    record {
+      seen = set (k .seen) (placeOf n) true;
+      long = length-set (k .seen) (placeOf n) true ∙ k .long;
+      count = let z = marks-set (k .seen) (placeOf n) inside (k .same n s ∙ new) in omega (arith, k .count);
+      same = λ m t. marked-by (k .seen) ns n m inside t (k .same m t) (eqb n m) refl ∙ either-swap (member m ns) (eqb n m);
+    }
+
+once-most : (ns : List ℕ) → Once ns → length ns ≤ length rows
+once-most ns o = let k = marked ns (o .once) (o .known) in let m = marks-most (k .seen) in omega (arith, k .long, k .count)
+
+-- An answer's data is the beep byte and at most a pair for each row.
+pub answer-most : (t : Values) (asked : List ℕ) → length (answerData t asked) ≤ 1 + 2 * length rows
+unfolding answerData
+answer-most t asked =
+    let l = length-pairs t (answeredNumbers asked) in
+    let m = once-most (answeredNumbers asked) (answer-names-once asked) in
+    omega arith
+
+answered-by-room : (d : Bool) (l n : ℕ) → l ≤ 1 + 2 * length rows → pick d (Refused Room) (Bytes l) ≡ Bytes n → n ≤ 1 + 2 * length rows
+answered-by-room true l n h e = absurd (let z : _≡_ {A = ℕ} 0 1 = cc in omega arith)
+answered-by-room false l n h e = let z : l ≡ n = cc in omega arith
+
+-- What `answer` tells of its room's bytes is at most 19.
+pub answered-most : {t : Table} {asked room room′ : List ℕ} {r : Written} {n : ℕ} → Answers t asked room r room′ → r ≡ Bytes n → n ≤ 1 + 2 * length rows
+answered-most {t} {asked} {room} {n = n} k e = answered-by-room (ltb (length room) 19) (length (answerData (valuesOf t) asked)) n (answer-most (valuesOf t) asked) (sym (k .is) ∙ e)
+
+member-there : (n : ℕ) (xs ys : List ℕ) → member n (xs ++ (n ∷ ys)) ≡ true
+unfolding member
+member-there n [] ys = simp (eq-eqb n n refl)
+member-there n (x ∷ xs) ys = rw (member-there n xs ys) (either-true (eqb x n))
+
+-- With FEh anywhere in the list the answer names all rows, in rising order.
+pub all-asked : (xs ys : List ℕ) → answeredNumbers (xs ++ (0xFE ∷ ys)) ≡ numbersOf rows
+unfolding answeredNumbers
+all-asked xs ys = simp (member-there 0xFE xs ys)
+
+-- The rows stand in rising order.
+pub rows-rising : rising (numbersOf rows) ≡ true
+unfolding rising risingFrom numbersOf rows
+rows-rising = refl

@@ -1,0 +1,24 @@
+-- `table::value` meets its contract: what stands at its place, or 0 where it has none. Assumes nothing.
+use mathlib.Core.Path.{_≡_}
+use lib.ListN.{length}
+use native.Mathlib.Omega.{arith}
+use Rattle.table.proofs.Finding.{rowCount, value-found, value-none}
+use borrow.Author.Needs.{needs}
+use Rattle.table.proofs.value.Statement.{statement}
+use Rattle.table.proofs.value.Tie as tie
+
+place-requires : tie.Need-place-requires
+place-requires c κs = search needs
+
+array-read-result : tie.Need-array-read-result
+array-read-result c = search needs
+
+returns : tie.Need-returns
+returns c = value-found (c .before .before .place .ensures)
+
+returns-2 : tie.Need-returns-2
+returns-2 c = let l : length (c .before .before .before .args .table .present) ≡ rowCount = search needs in
+    value-none (c .before .before .place .ensures) (omega arith)
+
+pub value-spec : {M : Type 1} → statement M
+value-spec = tie.close (tie.spec place-requires array-read-result returns returns-2)

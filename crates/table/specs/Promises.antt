@@ -1,0 +1,123 @@
+-- What the table's calls promise: the answer, the table, and every byte of the room.
+use Prim.Native.Nat.{ℕ, _+_, _%_, _≤_, _<_}
+use mathlib.Core.Bool.{Bool, true, false, not}
+use mathlib.Core.List.{List, [], _∷_, _++_}
+use mathlib.Core.Path.{_≡_}
+use lib.Dec.{ltb}
+use lib.ListN.{length, getD, set}
+use Rattle.words.specs.Lists.{pick, both, over, overAt}
+use Rattle.packet.specs.declared.Refusal.{Refusal}
+use Rattle.packet.specs.declared.Refusal.the-variants as refusal
+use Rattle.table.specs.Rows.{rows, placeOf, triggerAllowed, allowed, defaultsOf}
+use Rattle.table.specs.Table.{Values, Pair, Reading, wrongLength, pairs, readPairs, allAllowed, setAll, changed, Outcome, done, refused, setPairs, defaults, powerUp, valueOf, member, askedFor, numbersOf, pairBytes, answerData}
+use Rattle.table.specs.declared.Table.{Table}
+use Rattle.table.specs.declared.Verdict.{Verdict}
+use Rattle.table.specs.declared.Verdict.the-variants as verdict
+use Rattle.table.specs.declared.Changed.{Changed}
+use Rattle.table.specs.declared.Written.{Written}
+use Rattle.table.specs.declared.Written.the-variants as written
+
+-- What a table stands for.
+abbrev pub valuesOf : Table → Values
+valuesOf t = record { present = t .present; permanent = t .permanent }
+
+abbrev pub tableOf : Values → Table
+tableOf v = record { present = v .present; permanent = v .permanent }
+
+-- The answers that are enums.
+unfoldable pub changedOf : Table → Outcome → Changed
+changedOf t (done v) = record { table = tableOf v; verdict = verdict.Done }
+changedOf t (refused r) = record { table = t; verdict = verdict.Refused r }
+
+pub record Defaults (r : Table) : Type 0 where
+  pub is : r ≡ tableOf defaults
+
+pub record PowerUp (t r : Table) : Type 0 where
+  pub is : r ≡ tableOf (powerUp (valuesOf t))
+
+pub record Sets (t : Table) (bytes : List ℕ) (forever : Bool) (r : Changed) : Type 0 where
+  pub is : r ≡ changedOf t (setPairs forever (readPairs bytes) (valuesOf t))
+
+pub record Value (t : Table) (number r : ℕ) : Type 0 where
+  pub is : r ≡ valueOf (valuesOf t) number
+
+pub record Allowed (number value : ℕ) (r : Bool) : Type 0 where
+  pub is : r ≡ allowed number value
+
+-- The pair writer: 13 for room under 19; else the data, and nothing beyond it.
+pub record Answers (t : Table) (asked room : List ℕ) (r : Written) (room′ : List ℕ) : Type 0 where
+  pub is : r ≡ pick (ltb (length room) 19) (written.Refused refusal.Room) (written.Bytes (length (answerData (valuesOf t) asked)))
+  pub room-is : room′ ≡ over (pick (ltb (length room) 19) [] (answerData (valuesOf t) asked)) room
+
+-- ---- the functions inside
+
+pub record House (r : List ℕ) : Type 0 where
+  pub is : r ≡ defaultsOf rows
+
+pub record Place (number r : ℕ) : Type 0 where
+  pub is : r ≡ placeOf number
+  pub most : r ≤ 9
+
+pub record TriggerAllowed (value : ℕ) (r : Bool) : Type 0 where
+  pub is : r ≡ triggerAllowed value
+
+-- The pairs of an even number of bytes.
+unfoldable pub pairsOf : Reading → List Pair
+pairsOf wrongLength = []
+pairsOf (pairs ps) = ps
+
+pub record Even (bytes : List ℕ) : Type 0 where
+  pub is : length bytes % 2 ≡ 0
+
+pub record Judges (bytes : List ℕ) (r : Bool) : Type 0 where
+  pub is : r ≡ allAllowed (pairsOf (readPairs bytes))
+
+-- As many values as rows.
+pub record Full (values : List ℕ) : Type 0 where
+  pub is : length values ≡ length rows
+
+pub record Puts (values : List ℕ) (number value : ℕ) (r : List ℕ) : Type 0 where
+  pub is : r ≡ set values (placeOf number) value
+
+pub record PutsAll (values bytes r : List ℕ) : Type 0 where
+  pub is : r ≡ setAll (pairsOf (readPairs bytes)) values
+
+pub record Changes (t : Table) (bytes : List ℕ) (forever : Bool) (r : Changed) : Type 0 where
+  pub is : r ≡ record { table = tableOf (changed forever (pairsOf (readPairs bytes)) (valuesOf t)); verdict = verdict.Done }
+
+pub record AsksAll (asked : List ℕ) (r : Bool) : Type 0 where
+  pub is : r ≡ member 0xFE asked
+
+abbrev pub showing : List ℕ → Values
+showing values = record { present = values; permanent = [] }
+
+pub record AllPairs (values room : List ℕ) (r : ℕ) (room′ : List ℕ) : Type 0 where
+  pub is : r ≡ length (pairBytes (showing values) (numbersOf rows))
+  pub room-is : room′ ≡ over (pairBytes (showing values) (numbersOf rows)) room
+  pub most : r ≤ 18
+
+pub record AskedPairs (values asked room : List ℕ) (r : ℕ) (room′ : List ℕ) : Type 0 where
+  pub is : r ≡ length (pairBytes (showing values) (askedFor [] asked))
+  pub room-is : room′ ≡ over (pairBytes (showing values) (askedFor [] asked)) room
+  pub most : r ≤ 18
+
+-- How many are marked.
+unfoldable pub marks : List Bool → ℕ
+marks [] = 0
+marks (true ∷ bs) = 1 + marks bs
+marks (false ∷ bs) = marks bs
+
+-- As long as one is not marked, there is room for its pair.
+pub record Fits (seen : List Bool) (at : ℕ) (room : List ℕ) : Type 0 where
+  pub at-is : at ≡ marks seen + marks seen
+  pub room-is : 18 ≤ length room
+  pub seen-is : length seen ≡ 9
+
+-- One number asked for.
+unfoldable pub asks : List Bool → ℕ → Bool
+asks seen number = both (ltb (placeOf number) 9) (not (getD seen (placeOf number) false))
+
+pub record Asks (seen : List Bool) (at : ℕ) (values : List ℕ) (number : ℕ) (room : List ℕ) (r : ℕ) (seen′ : List Bool) (room′ : List ℕ) : Type 0 where
+  pub is : r ≡ pick (asks seen number) (at + 2) at
+  pub seen-is : seen′ ≡ pick (asks seen number) (set seen (placeOf number) true) seen
+  pub room-is : room′ ≡ pick (asks seen number) (overAt at (number ∷ getD values (placeOf number) 0 ∷ []) room) room

@@ -1,0 +1,93 @@
+-- Document 01: present and permanent values, PARAM_SEND, PARAM_DEFAULTS, power-up, and the answer to PARAM_REQUEST.
+use Prim.Native.Nat.{ℕ}
+use mathlib.Core.Bool.{Bool, true, false, not}
+use mathlib.Core.List.{List, [], _∷_, _++_}
+use lib.Dec.{eqb}
+use lib.ListN.{length, getD, set}
+use Rattle.words.specs.Lists.{pick, both, either}
+use Rattle.packet.specs.declared.Refusal.{Refusal}
+use Rattle.packet.specs.declared.Refusal.the-variants.{Data, Setting}
+use Rattle.table.specs.Rows.{rows, placeOf, supported, allowed, defaultsOf}
+
+-- Each parameter has a present and a permanent value, in the rows' order.
+pub record Values : Type 0 where
+  pub present : List ℕ
+  pub permanent : List ℕ
+
+-- A parameter and the value asked for it.
+pub record Pair : Type 0 where
+  pub number : ℕ
+  pub value : ℕ
+
+-- How the bytes behind the beep byte are read into pairs; a number with nothing after it is a wrong length.
+pub data Reading : Type 0 where
+  wrongLength : Reading
+  pairs : List Pair → Reading
+
+unfoldable pub behind : Pair → Reading → Reading
+behind p wrongLength = wrongLength
+behind p (pairs ps) = pairs (p ∷ ps)
+
+unfoldable pub readPairs : List ℕ → Reading
+readPairs [] = pairs []
+readPairs (n ∷ []) = wrongLength
+readPairs (n ∷ v ∷ rest) = behind (record { number = n; value = v }) (readPairs rest)
+
+unfoldable pub allAllowed : List Pair → Bool
+allAllowed [] = true
+allAllowed (p ∷ ps) = both (allowed (p .number) (p .value)) (allAllowed ps)
+
+-- Of a number named twice the later value holds.
+unfoldable pub setAll : List Pair → List ℕ → List ℕ
+setAll [] values = values
+setAll (p ∷ ps) values = setAll ps (set values (placeOf (p .number)) (p .value))
+
+-- Without bit 3 only present values change; with it both do.
+unfoldable pub changed : Bool → List Pair → Values → Values
+changed forever ps t = record { present = setAll ps (t .present); permanent = pick forever (setAll ps (t .permanent)) (t .permanent) }
+
+-- What becomes of a list of settings: the table, or the refusal that leaves it as it was.
+pub data Outcome : Type 0 where
+  done : Values → Outcome
+  refused : Refusal → Outcome
+
+unfoldable pub setPairs : Bool → Reading → Values → Outcome
+setPairs forever wrongLength t = refused Data
+setPairs forever (pairs ps) t = pick (allAllowed ps) (done (changed forever ps t)) (refused Setting)
+
+-- PARAM_DEFAULTS sets both; power-up copies permanent to present.
+unfoldable pub defaults : Values
+defaults = record { present = defaultsOf rows; permanent = defaultsOf rows }
+
+unfoldable pub powerUp : Values → Values
+powerUp t = record { present = t .permanent; permanent = t .permanent }
+
+unfoldable pub valueOf : Values → ℕ → ℕ
+valueOf t number = getD (t .present) (placeOf number) 0
+
+-- ---- the answer to a request
+
+unfoldable pub member : ℕ → List ℕ → Bool
+member n [] = false
+member n (x ∷ xs) = either (eqb x n) (member n xs)
+
+-- In order of first asking, each once; unsupported numbers are skipped.
+unfoldable pub askedFor : List ℕ → List ℕ → List ℕ
+askedFor sofar [] = sofar
+askedFor sofar (n ∷ ns) = askedFor (pick (both (supported n) (not (member n sofar))) (sofar ++ (n ∷ [])) sofar) ns
+
+unfoldable pub numbersOf : List (List ℕ) → List ℕ
+numbersOf [] = []
+numbersOf (row ∷ rest) = getD row 0 0 ∷ numbersOf rest
+
+-- FEh anywhere in the list means all of them in rising order.
+unfoldable pub answeredNumbers : List ℕ → List ℕ
+answeredNumbers asked = pick (member 0xFE asked) (numbersOf rows) (askedFor [] asked)
+
+unfoldable pub pairBytes : Values → List ℕ → List ℕ
+pairBytes t [] = []
+pairBytes t (n ∷ ns) = n ∷ valueOf t n ∷ pairBytes t ns
+
+-- The data of the PARAM_SEND that answers: beep byte FFh, then the pairs.
+unfoldable pub answerData : Values → List ℕ → List ℕ
+answerData t asked = 0xFF ∷ pairBytes t (answeredNumbers asked)

@@ -1,0 +1,310 @@
+// The parameter table: nine settings with a present and a permanent value each.
+use packet::Refusal;
+ghost use Prim.Native.Nat.{_+_, _≤_, _<_};
+ghost use mathlib.Core.Path.{_≡_};
+ghost use lib.ListN.{length};
+ghost use Rattle.table.specs.Promises.{Defaults, PowerUp, Sets, Value, Allowed, Answers, House, Place, TriggerAllowed, Even, Judges, Full, Puts, PutsAll, Changes, AsksAll, AllPairs, AskedPairs, Fits, Asks};
+
+// How many parameters there are.
+pub const ROWS: usize = 9;
+// The longest data of an answer: the beep byte and a pair for each parameter.
+pub const ANSWER: usize = 1 + 2 * ROWS;
+
+// The allowed settings: parameter, lowest, highest, house default.
+const SETTINGS: [[u8; 4]; ROWS] = [
+    [0x80, 0, 1, 0],
+    [0x89, 0, 99, 10],
+    [0x8A, 0, 8, 0],
+    [0x9B, 0, 99, 20],
+    [0x9C, 1, 7, 6],
+    [0x9E, 0, 4, 4],
+    [0x9F, 0, 1, 1],
+    [0xED, 0, 99, 0],
+    [0xEE, 0, 1, 1],
+];
+
+// Present and permanent values, in the order of the settings.
+pub struct Table {
+    pub present: [u8; ROWS],
+    pub permanent: [u8; ROWS],
+}
+
+// What became of a list of settings.
+pub enum Verdict {
+    Done,
+    Refused(Refusal),
+}
+
+pub struct Changed {
+    pub table: Table,
+    pub verdict: Verdict,
+}
+
+// What the pair writer did.
+pub enum Written {
+    Bytes(usize),
+    Refused(Refusal),
+}
+
+// The house defaults, present and permanent.
+pub fn defaults() -> Table
+    ensures { λ r. ⌜ Defaults r ⌝ }
+{
+    let values = house();
+    Table {
+        present: values,
+        permanent: values,
+    }
+}
+
+fn house() -> [u8; ROWS]
+    ensures { λ r. ⌜ House r ⌝ }
+{
+    let mut values = [0u8; ROWS];
+    let mut i = 0;
+    while i < ROWS {
+        values[i] = SETTINGS[i][3];
+        i += 1;
+    }
+    values
+}
+
+// Power-up copies permanent to present.
+pub fn power_up(table: Table) -> Table
+    ensures { λ r. ⌜ PowerUp table r ⌝ }
+{
+    let values = table.permanent;
+    Table {
+        present: values,
+        permanent: values,
+    }
+}
+
+// Sets a list of pairs, number and value, all or nothing: 7 for a number with nothing after it, then 9.
+pub fn set(table: Table, pairs: &[u8], permanent: bool) -> Changed
+    ensures { λ r. ⌜ Sets table (now (pairs .entry)) permanent r ⌝ }
+{
+    if pairs.len() % 2 != 0 {
+        return Changed {
+            table,
+            verdict: Verdict::Refused(Refusal::Data),
+        };
+    }
+    if all_allowed(pairs) {
+        return change(table, pairs, permanent);
+    }
+    Changed {
+        table,
+        verdict: Verdict::Refused(Refusal::Setting),
+    }
+}
+
+// Without permanent only present values change; with it both do.
+fn change(table: Table, pairs: &[u8], permanent: bool) -> Changed
+    requires { ⌜ Even (now pairs) ⌝ }
+    ensures { λ r. ⌜ Changes table (now (pairs .entry)) permanent r ⌝ }
+{
+    let values = table.present;
+    let present = put_all(values, pairs);
+    if permanent {
+        let lasting = table.permanent;
+        return Changed {
+            table: Table {
+                present,
+                permanent: put_all(lasting, pairs),
+            },
+            verdict: Verdict::Done,
+        };
+    }
+    let kept = table.permanent;
+    Changed {
+        table: Table {
+            present,
+            permanent: kept,
+        },
+        verdict: Verdict::Done,
+    }
+}
+
+// The present value of a parameter; 0 where it is not supported.
+pub fn value(table: Table, number: u8) -> u8
+    ensures { λ r. ⌜ Value table number r ⌝ }
+{
+    let at = place(number);
+    let values = table.present;
+    if at < ROWS {
+        return values[at];
+    }
+    0
+}
+
+// The data of the PARAM_SEND that answers a request: beep byte FFh, then the pairs. 13 for room under 19.
+pub fn answer(table: Table, asked: &[u8], room: &mut [u8]) -> Written
+    ensures { λ r. ⌜ Answers table (now (asked .entry)) (now (room .entry)) r (now (room .exit)) ⌝ }
+{
+    if room.len() < ANSWER {
+        return Written::Refused(Refusal::Room);
+    }
+    let values = table.present;
+    room[0] = 0xFF;
+    if asks_all(asked) {
+        let count = all_pairs(values, &mut room[1..]);
+        return Written::Bytes(count + 1);
+    }
+    let count = asked_pairs(values, asked, &mut room[1..]);
+    Written::Bytes(count + 1)
+}
+
+// FEh anywhere in the list.
+fn asks_all(asked: &[u8]) -> bool
+    ensures { λ r. ⌜ AsksAll (now (asked .entry)) r ⌝ }
+{
+    let mut i = 0;
+    while i < asked.len() {
+        if asked[i] == 0xFE {
+            return true;
+        }
+        i += 1;
+    }
+    false
+}
+
+// All pairs in rising order.
+fn all_pairs(values: [u8; ROWS], room: &mut [u8]) -> usize
+    requires { ⌜ 18 ≤ length (now room) ⌝ }
+    ensures { λ r. ⌜ AllPairs values (now (room .entry)) r (now (room .exit)) ⌝ }
+{
+    let mut i = 0;
+    while i < ROWS {
+        room[i + i] = SETTINGS[i][0];
+        room[i + i + 1] = values[i];
+        i += 1;
+    }
+    i + i
+}
+
+// The pairs of the numbers asked for, in order of first asking, each once.
+fn asked_pairs(values: [u8; ROWS], asked: &[u8], room: &mut [u8]) -> usize
+    requires { ⌜ 18 ≤ length (now room) ⌝ }
+    ensures { λ r. ⌜ AskedPairs values (now (asked .entry)) (now (room .entry)) r (now (room .exit)) ⌝ }
+{
+    let mut seen = [false; ROWS];
+    let mut at = 0;
+    let mut i = 0;
+    while i < asked.len() {
+        at = ask(&mut seen, at, values, asked[i], room);
+        i += 1;
+    }
+    at
+}
+
+// One number asked for: its pair behind those before it, unless it is unsupported or has been answered.
+fn ask(seen: &mut [bool; ROWS], at: usize, values: [u8; ROWS], number: u8, room: &mut [u8]) -> usize
+    requires { ⌜ Fits (now seen) at (now room) ⌝ }
+    ensures { λ r. ⌜ Asks (now (seen .entry)) at values number (now (room .entry)) r (now (seen .exit)) (now (room .exit)) ⌝ }
+{
+    let row = place(number);
+    if row < ROWS {
+        if seen[row] {
+            return at;
+        }
+        seen[row] = true;
+        room[at] = number;
+        room[at + 1] = values[row];
+        return at + 2;
+    }
+    at
+}
+
+// Whether every pair is allowed.
+fn all_allowed(pairs: &[u8]) -> bool
+    requires { ⌜ Even (now pairs) ⌝ }
+    ensures { λ r. ⌜ Judges (now (pairs .entry)) r ⌝ }
+{
+    let mut i = 0;
+    while i < pairs.len() {
+        if allowed(pairs[i], pairs[i + 1]) {
+            i += 2;
+        } else {
+            return false; // the whole list
+        }
+    }
+    true
+}
+
+// The values with every pair set; of a number named twice the later value holds.
+fn put_all(values: [u8; ROWS], pairs: &[u8]) -> [u8; ROWS]
+    requires { ⌜ Even (now pairs) ⌝ }
+    ensures { λ r. ⌜ PutsAll values (now (pairs .entry)) r ⌝ }
+{
+    let mut next = values;
+    let mut i = 0;
+    while i < pairs.len() {
+        put(&mut next, pairs[i], pairs[i + 1]);
+        i += 2;
+    }
+    next
+}
+
+fn put(values: &mut [u8; ROWS], number: u8, value: u8)
+    requires { ⌜ Full (now values) ⌝ }
+    ensures { λ _. ⌜ Puts (now (values .entry)) number value (now (values .exit)) ⌝ }
+{
+    let at = place(number);
+    if at < ROWS {
+        values[at] = value;
+    }
+}
+
+// Whether the parameter is supported and takes the value.
+pub fn allowed(number: u8, value: u8) -> bool
+    ensures { λ r. ⌜ Allowed number value r ⌝ }
+{
+    let at = place(number);
+    if at < ROWS {
+        if value < SETTINGS[at][1] {
+            return false;
+        }
+        if SETTINGS[at][2] < value {
+            return false;
+        }
+        if number == 0x8A {
+            return trigger_allowed(value);
+        }
+        return true;
+    }
+    false
+}
+
+// 8Ah takes only 0, 2, 4, 7, 8.
+fn trigger_allowed(value: u8) -> bool
+    ensures { λ r. ⌜ TriggerAllowed value r ⌝ }
+{
+    if value == 0 {
+        return true;
+    }
+    if value == 2 {
+        return true;
+    }
+    if value == 4 {
+        return true;
+    }
+    if value == 7 {
+        return true;
+    }
+    value == 8
+}
+
+// Where a parameter stands among the settings; behind the last where it has none.
+fn place(number: u8) -> usize
+    ensures { λ r. ⌜ Place number r ⌝ }
+{
+    let mut i = 0;
+    while i < ROWS {
+        if SETTINGS[i][0] == number {
+            return i;
+        }
+        i += 1;
+    }
+    ROWS
+}
