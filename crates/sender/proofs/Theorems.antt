@@ -42,6 +42,7 @@ cut-is zero m h = last {m = m} (omega arith)
 cut-is (suc k) m h =
     cut-by m (cutBy k (drop 250 m)) (leb (length m) 250) refl (λ l. cut-is k (drop 250 m) (let e = length-drop 250 m in omega arith))
 
+-- A message's pieces are cut so.
 pub pieces-are-cut : (m : List ℕ) → Cut m (piecesOf m)
 unfolding piecesOf
 pieces-are-cut m = cut-is (length m / 250) m (omega arith)
@@ -85,17 +86,19 @@ pieces-sized m = cut-sized (pieces-are-cut m)
 pub pieces-filled : (m : List ℕ) → 0 < length m → Each (λ (p : List ℕ). 0 < length p) (piecesOf m)
 pieces-filled m h = cut-filled (pieces-are-cut m) h
 
--- One piece for a message of at most 250 bytes; else one more than for what stands behind the first 250.
+-- A message of at most 250 bytes has one piece.
 pub pieces-one : (m : List ℕ) → length m ≤ 250 → length (piecesOf m) ≡ 1
 pieces-one m h = rw (pieces-last m h) refl
 
+-- A longer one has one more than what stands behind its first 250 bytes.
 pub pieces-more : (m : List ℕ) → 250 < length m → length (piecesOf m) ≡ length (piecesOf (drop 250 m)) + 1
 pieces-more m h = ap length (pieces-cut m h) ∙ omega arith
 
--- The number of pieces of a message that is not empty; and at most 17 for any that can be sent.
+-- So a message that is not empty has a piece for each 250 bytes begun.
 pub pieces-number : (m : List ℕ) → 0 < length m → length (piecesOf m) ≡ (length m + 249) / 250
 pieces-number m h = cut-number (pieces-are-cut m) h
 
+-- Whatever can be sent has at most 17.
 pub pieces-most : (m : List ℕ) → length m ≤ 4096 → length (piecesOf m) ≤ 17
 pieces-most m h = by (decLe (length m) 0)
   where
@@ -144,7 +147,7 @@ packets-found code m rest k b = each-so (λ p h. sym (sealed-check p rest h .is)
 pub packets-fit : (code : ℕ) (m : List ℕ) → code < 256 → Bytes m → Each (λ (p : List ℕ). length (seal p) ≤ 257) (packetsOf code m)
 packets-fit code m k b = each-so (λ p h. let e = length-seal p in let l = h .most in omega arith) (packets-bodies code m k b)
 
--- And so is its marked copy.
+-- A body with its resend mark is a body too, so marked copies are found in the same way.
 pub marked-body : (b : List ℕ) → Body b → Body (marked b)
 unfolding marked
 marked-body b k =
@@ -218,7 +221,7 @@ unfolding answered
 again-step p ps s nak = refl
 again-step p ps s time = refl
 
--- Each of the first two gives a marked copy, the third in a row fails.
+-- Each of the first two in a row gives a marked copy, the third fails.
 pub third-fails : {h₁ h₂ h₃ : Heard} (p : List ℕ) (ps : List (List ℕ)) (c : ℕ) (f : Bool) → Again h₁ → Again h₂ → Again h₃ →
     through senderStep (record { queue = p ∷ ps; resends = 0; copies = c; failed = f }) (h₁ ∷ h₂ ∷ h₃ ∷ [])
     ≡ record { next = nothingOut true; told = copy (marked p) ∷ copy (marked p) ∷ failed (c + 1 + 1) ∷ [] }
@@ -230,11 +233,18 @@ third-fails {h₁} {h₂} {h₃} p ps c f a b d =
       again-step p ps (record { queue = p ∷ ps; resends = 2; copies = c + 1 + 1; failed = f }) d,
     )
 
--- After two, no step gives a copy of the same packet: one that keeps the queue tells nothing.
 fails-now : (d : Bool) (p : List ℕ) (s : SenderState) → 2 ≤ s .resends → pick d (resends p s) (fails s) ≡ fails s
 unfolding resends
 fails-now true p s h = simp (le-ltb (s .resends) 2 h)
 fails-now false p s h = refl
+
+twice-by : {h : Heard} {p : List ℕ} {q ps : List (List ℕ)} (s : SenderState) → q ≡ p ∷ ps → 2 ≤ s .resends → Again h → answered q s h ≡ fails s
+twice-by {p = p} {ps = ps} s e l a = rw e (again-step p ps s a ∙ fails-now true p s l)
+
+-- So it is wherever the present packet was resent twice.
+pub twice-then-fails : {h : Heard} {p : List ℕ} {ps : List (List ℕ)} (s : SenderState) → s .queue ≡ p ∷ ps → 2 ≤ s .resends → Again h → senderStep s h ≡ fails s
+unfolding senderStep
+twice-then-fails s e l a = twice-by s e l a
 
 kept-by : (p : List ℕ) (ps : List (List ℕ)) (s : SenderState) (d : Done SenderState Sent) → d ≡ fails s → d .next .queue ≡ p ∷ ps → d .told ≡ []
 unfolding fails
@@ -249,11 +259,11 @@ no-third-by (p ∷ ps) s (Nak cause) l e = kept-by p ps s (pick (eqb cause 1) (r
 no-third-by (p ∷ ps) s TimeOut l e = kept-by p ps s (resends p s) (fails-now true p s l) e
 no-third-by (p ∷ ps) s Nothing l e = refl
 
+-- After two, no step gives a copy of the same packet: a step that keeps the packets still to be acknowledged tells nothing.
 pub no-third : (s : SenderState) (h : Heard) → 2 ≤ s .resends → senderStep s h .next .queue ≡ s .queue → senderStep s h .told ≡ []
 unfolding senderStep
 no-third s h l e = no-third-by (s .queue) s h l e
 
--- And no step counts more than two.
 two-at-most : (d : Bool) (p : List ℕ) (s : SenderState) → ltb (s .resends) 2 ≡ d → resends p s .next .resends ≤ 2
 unfolding resends fails
 two-at-most true p s e = let l = ltb-true (s .resends) 2 e in simp e (omega arith)
@@ -272,6 +282,7 @@ tries-by (p ∷ ps) s (Nak cause) l = by (eqb cause 1)
 tries-by (p ∷ ps) s TimeOut l = two-at-most (ltb (s .resends) 2) p s refl
 tries-by (p ∷ ps) s Nothing l = l
 
+-- No step counts more than two resends of a packet.
 pub tries-kept : (s : SenderState) (h : Heard) → s .resends ≤ 2 → senderStep s h .next .resends ≤ 2
 unfolding senderStep
 tries-kept s h l = tries-by (s .queue) s h l
@@ -283,11 +294,12 @@ unfolding answered some
 rests-by [] s h e = refl
 rests-by (p ∷ ps) s h e = absurd (let z : _≡_ {A = ℕ} 0 1 = cc in omega arith)
 
--- With nothing out, everything heard does nothing; and so does all that is heard one after the other.
+-- With nothing out, everything heard does nothing.
 pub rests : (s : SenderState) (h : Heard) → waits s ≡ false → senderStep s h ≡ ignores s
 unfolding senderStep
 rests s h e = rests-by (s .queue) s h e
 
+-- And so does all that is heard one after the other.
 pub rests-long : (s : SenderState) (hs : List Heard) → waits s ≡ false → through senderStep s hs ≡ record { next = s; told = [] }
 unfolding through after
 rests-long s [] e = refl
