@@ -191,7 +191,7 @@ module _ {seen : List Bool} {at number row : ℕ} {room : List ℕ} (p : Place n
 
 -- ---- `asked_pairs`
 
-either-assoc : (a b d : Bool) → either a (either b d) ≡ either (either a b) d
+pub either-assoc : (a b d : Bool) → either a (either b d) ≡ either (either a b) d
 either-assoc true b d = refl
 either-assoc false b d = refl
 
@@ -252,7 +252,7 @@ pub either-true : (a : Bool) → either a true ≡ true
 either-true true = refl
 either-true false = refl
 
-either-false : (a : Bool) → either a false ≡ a
+pub either-false : (a : Bool) → either a false ≡ a
 either-false true = refl
 either-false false = refl
 

@@ -8,7 +8,7 @@ use native.Mathlib.Omega.{arith}
 use lib.Dec.{eqb, ltb}
 use lib.ListN.{length, getD, set, replicate, length-set, length-replicate, getD-replicate}
 use lib.Seq.{getD-set-same, getD-set-other}
-use borrow.Author.Tests.{eq-eqb, ne-eqb, eqb-true, eqb-false, ltb-true, not-true}
+use borrow.Author.Tests.{eq-eqb, ne-eqb, eqb-true, eqb-false, ltb-true, not-true, not-false}
 use Rattle.words.specs.Lists.{pick, both, either}
 use Rattle.words.proofs.Lists.{both-left, both-right, both-false}
 use Rattle.packet.specs.declared.Refusal.{Refusal}
@@ -19,8 +19,8 @@ use Rattle.table.specs.Promises.{Answers, valuesOf, changedOf, marks}
 use Rattle.table.specs.declared.Table.{Table}
 use Rattle.table.specs.declared.Written.{Written}
 use Rattle.table.specs.declared.Written.the-variants.{Bytes, Refused}
-use Rattle.table.proofs.Finding.{number-at, same-place, length-defaults}
-use Rattle.table.proofs.Answering.{marks-set, marks-most, marks-none, marked-by, member-append, length-pairs, either-true}
+use Rattle.table.proofs.Finding.{rowCount, number-at, same-place, length-defaults}
+use Rattle.table.proofs.Answering.{marks-set, marks-most, marks-none, marked-by, member-append, length-pairs, either-true, either-false, either-assoc}
 
 -- ---- what a list of settings changes
 
@@ -260,6 +260,29 @@ pub answer-names-once : (asked : List ℕ) → Once (answeredNumbers asked)
 unfolding answeredNumbers
 answer-names-once asked = answered-by asked (member 0xFE asked)
 
+grown-by : (sofar : List ℕ) (m n : ℕ) → supported n ≡ true → (d : Bool) → both (supported m) (not (member m sofar)) ≡ d → (e : Bool) → eqb m n ≡ e →
+    member n (pick d (sofar ++ (m ∷ [])) sofar) ≡ either (member n sofar) e
+unfolding member
+grown-by sofar m n s true t true q = member-append n sofar (m ∷ []) ∙ simp q
+grown-by sofar m n s true t false q = member-append n sofar (m ∷ []) ∙ simp q
+grown-by sofar m n s false t true q =
+    let b = simp s at (rw (eqb-true m n q) at t) in
+    let there = not-false (member n sofar) b in
+    there ∙ sym (either-true (member n sofar))
+grown-by sofar m n s false t false q = sym (either-false (member n sofar))
+
+asked-there : (sofar ns : List ℕ) (n : ℕ) → supported n ≡ true → member n (askedFor sofar ns) ≡ either (member n sofar) (member n ns)
+unfolding askedFor member
+asked-there sofar [] n s = sym (either-false (member n sofar))
+asked-there sofar (m ∷ ns) n s =
+    asked-there (pick (both (supported m) (not (member m sofar))) (sofar ++ (m ∷ [])) sofar) ns n s
+    ∙ rw (grown-by sofar m n s (both (supported m) (not (member m sofar))) refl (eqb m n) refl) (sym (either-assoc (member n sofar) (eqb m n) (member n ns)))
+
+-- Without FEh a supported number is answered exactly where it is asked for.
+pub answer-names-asked : (asked : List ℕ) (n : ℕ) → supported n ≡ true → member 0xFE asked ≡ false → member n (answeredNumbers asked) ≡ member n asked
+unfolding answeredNumbers member
+answer-names-asked asked n s e = simp e (asked-there [] asked n s)
+
 -- Numbers that stand once and are supported mark as many rows.
 record Marked (ns : List ℕ) : Type 0 where
   seen : List Bool
@@ -309,9 +332,9 @@ answered-by-room : (d : Bool) (l n : ℕ) → l ≤ 1 + 2 * length rows → pick
 answered-by-room true l n h e = absurd (let z : _≡_ {A = ℕ} 0 1 = cc in omega arith)
 answered-by-room false l n h e = let z : l ≡ n = cc in omega arith
 
--- What `answer` tells of its room's bytes is at most 19.
+-- The same of the number of bytes that `answer` gives back, for its callers.
 pub answered-most : {t : Table} {asked room room′ : List ℕ} {r : Written} {n : ℕ} → Answers t asked room r room′ → r ≡ Bytes n → n ≤ 1 + 2 * length rows
-answered-most {t} {asked} {room} {n = n} k e = answered-by-room (ltb (length room) 19) (length (answerData (valuesOf t) asked)) n (answer-most (valuesOf t) asked) (sym (k .is) ∙ e)
+answered-most {t} {asked} {room} {n = n} k e = answered-by-room (ltb (length room) (1 + (rowCount + rowCount))) (length (answerData (valuesOf t) asked)) n (answer-most (valuesOf t) asked) (sym (k .is) ∙ e)
 
 member-there : (n : ℕ) (xs ys : List ℕ) → member n (xs ++ (n ∷ ys)) ≡ true
 unfolding member

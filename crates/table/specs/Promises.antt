@@ -1,17 +1,15 @@
 -- What the table's calls promise: the answer, the table, and every byte of the room.
-use Prim.Native.Nat.{ℕ, _+_, _%_, _≤_, _<_}
+use Prim.Native.Nat.{ℕ, _+_, _%_, _≤_}
 use mathlib.Core.Bool.{Bool, true, false, not}
-use mathlib.Core.List.{List, [], _∷_, _++_}
+use mathlib.Core.List.{List, [], _∷_}
 use mathlib.Core.Path.{_≡_}
 use lib.Dec.{ltb}
 use lib.ListN.{length, getD, set}
 use Rattle.words.specs.Lists.{pick, both, over, overAt}
-use Rattle.packet.specs.declared.Refusal.{Refusal}
 use Rattle.packet.specs.declared.Refusal.the-variants as refusal
 use Rattle.table.specs.Rows.{rows, placeOf, triggerAllowed, allowed, defaultsOf}
 use Rattle.table.specs.Table.{Values, Pair, Reading, wrongLength, pairs, readPairs, allAllowed, setAll, changed, Outcome, done, refused, setPairs, defaults, powerUp, valueOf, member, askedFor, numbersOf, pairBytes, answerData}
 use Rattle.table.specs.declared.Table.{Table}
-use Rattle.table.specs.declared.Verdict.{Verdict}
 use Rattle.table.specs.declared.Verdict.the-variants as verdict
 use Rattle.table.specs.declared.Changed.{Changed}
 use Rattle.table.specs.declared.Written.{Written}
