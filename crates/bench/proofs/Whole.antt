@@ -21,6 +21,7 @@ use Rattle.framer.specs.Behind.{Behind, framed}
 use Rattle.framer.specs.declared.Event.{Event}
 use Rattle.framer.specs.declared.Event.the-variants.{Byte, CharacterGap}
 use Rattle.framer.proofs.Theorems.{packet-found}
+use Rattle.framer.proofs.Behind.{framed-run}
 use Rattle.hub.specs.Joiner.{none, some, Joiner, Output, added, handed, typeIn, pieceIn, otherType, bytesOf, joined, adding, joinStep}
 use Rattle.hub.specs.Hub.{HubState, switchedOn, decodeStep, packetStep, heardStep, cleared, hubStep, answerBytes}
 use Rattle.sender.specs.Pieces.{bodiesOf, packetsOf}
@@ -28,38 +29,13 @@ use Rattle.sender.proofs.Answering.{bodies-more}
 use Rattle.sender.proofs.Theorems.{Cut, last, more, pieces-are-cut, Each, none as no-body, one, packets-bodies, packets-number}
 use Rattle.bench.specs.Whole.{copyThen, copiesOf, closeCopiesOf, Rests, wholeTold, TakesIn}
 
--- ---- a machine behind a framer (these laws belong to the crate framer)
-
--- A run behind a framer is the framer's run, and then the machine's over all that the framer told.
-pub framed-run : {S O : Type 0} (step : S → Heard → Done S O) (b : Behind S) (es : List Event) →
-    through (framed step) b es
-    ≡ record {
-      next = record { line = through framerStep (b .line) es .next; core = through step (b .core) (through framerStep (b .line) es .told) .next };
-      told = through step (b .core) (through framerStep (b .line) es .told) .told;
-    }
-unfolding through after framed
-framed-run step b [] = refl
-framed-run step b (e ∷ es) =
-    rw (
-      framed-run step (framed step b e .next) es,
-      through-append step (b .core) (framerStep (b .line) e .told) (through framerStep (framerStep (b .line) e .next) es .told),
-    )
-    refl
-
--- So the bytes of a sealed body are one step of the machine, on exactly that packet.
-pub framed-sealed : {S O : Type 0} (step : S → Heard → Done S O) (core : S) (b : List ℕ) → Body b →
-    through (framed step) (record { line = hearing []; core = core }) (map Byte (seal b))
-    ≡ record { next = record { line = hearing []; core = step core (packet b) .next }; told = step core (packet b) .told }
-framed-sealed step core b k =
-    framed-run step (record { line = hearing []; core = core }) (map Byte (seal b)) ∙ rw (packet-found b k, through-one step core (packet b)) refl
-
--- ---- the data of a body (this law belongs to the crate packet)
+-- ---- the data of a body
 
 pub data-body : (o s t : ℕ) (d : List ℕ) → dataIn (bodyOf o s t d) ≡ d
 unfolding dataIn bodyOf
 data-body o s t d = let e : length d + 4 - 4 ≡ length d = omega arith in rw e (take-length d)
 
--- ---- the hub's line (these laws belong to the crate hub)
+-- ---- the hub's line
 
 -- Bytes and character gaps only.
 pub data Calm : List Event → Type 0 where
@@ -89,7 +65,7 @@ unfolding through heardStep
 heard-packets j [] = refl
 heard-packets j (p ∷ ps) = ap (after (packetStep j p .told)) (heard-packets (packetStep j p .next) ps)
 
--- ---- one packet of a message at the hub (these laws belong to the crate hub)
+-- ---- one packet of a message at the hub
 
 either-true : (a : Bool) → either a true ≡ true
 either-true true = refl

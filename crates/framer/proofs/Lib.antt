@@ -1,3 +1,4 @@
+pub mod Behind
 pub mod Outcomes
 pub mod Steps
 pub mod Theorems

@@ -1,21 +1,20 @@
 -- What the framer found is what it told: nothing, a refusal, or the packet that stands at the front of its line buffer. Assumes nothing.
-use Prim.Native.Nat.{ℕ, _≤_, _<_}
+use Prim.Native.Nat.{ℕ, _+_, _≤_}
 use mathlib.Core.Path.{_≡_, refl, sym, ap, _∙_}
 use mathlib.Core.Bool.{Bool, true, false}
 use mathlib.Core.List.{List, [], _∷_, _++_}
 use native.Mathlib.Omega.{arith}
-use lib.Dec.{eqb}
+use lib.Dec.{eqb, ltb}
 use lib.ListN.{length, getD, take, drop, List·getD-append}
-use lib.Seq.{take-append-le, getD-take}
+use lib.Seq.{take-append-le}
 use Rattle.words.specs.Lists.{pick, Bytes, over}
 use Rattle.words.specs.Machine.{Done}
-use Rattle.packet.specs.Packet.{bodyIn, headIn, checkOf}
-use Rattle.packet.specs.Refusals.{numberOf}
+use Rattle.packet.specs.Packet.{bodyIn, headIn, checksumIn, checksumOf, checkOf}
 use Rattle.packet.specs.declared.Refusal.{Refusal}
+use Rattle.packet.specs.declared.Refusal.the-variants.{Length, Checksum, Cut}
 use Rattle.packet.specs.declared.Head.{Head}
-use Rattle.packet.specs.declared.Checked.{Checked}
 use Rattle.packet.specs.declared.Checked.the-variants as checked
-use Rattle.packet.proofs.Theorems.{accepted, Accepted}
+use Rattle.packet.proofs.Theorems.{accepted, accepted-head}
 use Rattle.framer.specs.Framer.{Line, hearing, deaf, Heard, packet, refused, quiet, says, judged, atGap, atByte, framerStep}
 use Rattle.framer.specs.Promises.{begunOf, lineOf, foundOf, storedOf, Frames}
 use Rattle.framer.specs.declared.Event.{Event}
@@ -23,59 +22,64 @@ use Rattle.framer.specs.declared.Event.the-variants.{Byte, CharacterGap,
 use Rattle.framer.specs.declared.Framer.{Framer}
 use Rattle.framer.specs.declared.Framed.{Framed}
 use Rattle.framer.specs.declared.Found.the-variants.{Nothing, Packet, Refused}
-use Rattle.framer.proofs.Steps.{enough, stored}
+use Rattle.framer.proofs.Steps.{enough}
 use Rattle.framer.proofs.Theorems.{view-after}
 
--- A step of the framer, beside its line buffer afterwards: nothing told, a refusal, or the packet that stands at the front, and nothing is begun.
-pub data Outcome (line : List ℕ) : Done Line Heard → Type 0 where
-  nothing : {l : Line} → Outcome line (record { next = l; told = [] })
-  refusing : {l : Line} {x : Refusal} → Outcome line (record { next = l; told = refused x ∷ [] })
-  whole : 4 ≤ getD line 0 0 → getD line 0 0 ≤ 255 → Outcome line (record { next = hearing []; told = packet (bodyIn line) ∷ [] })
+-- What one event brings out of a framer: nothing; number 3, and nothing is begun; number 1 or 2, and it is deaf; or the packet that the check
+-- finds in the bytes so far, and nothing is begun.
+pub data Brings : Line → Event → Done Line Heard → Type 0 where
+  nothing : {l next : Line} {e : Event} → Brings l e (quiet next)
+  cut : {l : Line} {e : Event} → Brings l e (says (hearing []) (refused Cut))
+  low : {l : Line} {e : Event} → Brings l e (says deaf (refused Length))
+  wrong : {l : Line} {e : Event} → Brings l e (says deaf (refused Checksum))
+  whole : {got : List ℕ} {b : ℕ} {h : Head} → checkOf (got ++ (b ∷ [])) ≡ checked.Packet h → Brings (hearing got) (Byte b) (says (hearing []) (packet (bodyIn (got ++ (b ∷ [])))))
 
-outcome-refused : (s line : List ℕ) (x : Refusal) (d : Bool) → Outcome line (pick d (quiet (hearing s)) (says deaf (refused x)))
-outcome-refused s line x true = nothing
-outcome-refused s line x false = refusing
-
-outcome-packet : (s line : List ℕ) {h : Head} → Accepted s h → Bytes (over s line) → Outcome (over s line) (says (hearing []) (packet (bodyIn s)))
-unfolding over bodyIn
-outcome-packet s line k bytes =
-    let n = getD s 0 0 in
-    let least = k .least in
-    let most = k .enough in
-    let first : getD (s ++ drop (length s) line) 0 0 ≡ n = List·getD-append s (drop (length s) line) 0 0 (omega arith) in
-    let small = bytes .each 0 in
-    let body : take n s ≡ take (getD (s ++ drop (length s) line) 0 0) (s ++ drop (length s) line) = sym (rw first (take-append-le n s (drop (length s) line) (omega arith))) in
-    rw body (whole (omega arith) (omega arith))
-
-outcome-judged : (s line : List ℕ) (r : Checked) → checkOf s ≡ r → Bytes (over s line) → Outcome (over s line) (judged s r)
+brings-byte : (got s : List ℕ) (b : ℕ) (none small few right : Bool) → s ≡ got ++ (b ∷ []) →
+    checkOf s ≡ pick none (checked.Refused Cut) (pick small (checked.Refused Length) (pick few (checked.Refused Cut) (pick right (checked.Packet (headIn s)) (checked.Refused Checksum)))) →
+    Brings (hearing got) (Byte b) (judged s (checkOf s))
 unfolding judged
-outcome-judged s line (checked.Packet h) e bytes = outcome-packet s line (accepted s e) bytes
-outcome-judged s line (checked.Refused x) e bytes = outcome-refused s (over s line) x (eqb (numberOf x) 3)
+brings-byte got s b true small few right e f = rw f nothing
+brings-byte got s b false true few right e f = rw f low
+brings-byte got s b false false true right e f = rw f nothing
+brings-byte got s b false false false true e f = rw f (rw e (whole (rw e at f)))
+brings-byte got s b false false false false e f = rw f wrong
 
-outcome-gap : (line : List ℕ) (l : Line) → Outcome line (atGap l)
+brings-gap : (l : Line) (e : Event) → Brings l e (atGap l)
 unfolding atGap
-outcome-gap line (hearing []) = nothing
-outcome-gap line (hearing (x ∷ xs)) = refusing
-outcome-gap line deaf = nothing
+brings-gap (hearing []) e = nothing
+brings-gap (hearing (x ∷ xs)) e = cut
+brings-gap deaf e = nothing
 
-outcome-step : (l : Line) (line : List ℕ) (e : Event) → Bytes (storedOf e l line) → Outcome (storedOf e l line) (framerStep l e)
-unfolding framerStep atByte storedOf
-outcome-step (hearing got) line (Byte b) bytes = outcome-judged (got ++ (b ∷ [])) line (checkOf (got ++ (b ∷ []))) refl bytes
-outcome-step deaf line (Byte b) bytes = nothing
-outcome-step l line CharacterGap bytes = outcome-gap line l
-outcome-step l line MessageGap bytes = outcome-gap line l
+pub brings : (l : Line) (e : Event) → Brings l e (framerStep l e)
+unfolding framerStep atByte checkOf
+brings (hearing got) (Byte b) =
+    let s : List ℕ = got ++ (b ∷ []) in
+    brings-byte got s b (eqb (length s) 0) (ltb (getD s 0 0) 4) (ltb (length s) (getD s 0 0 + 2)) (eqb (checksumIn s) (checksumOf (bodyIn s))) refl refl
+brings deaf (Byte b) = nothing
+brings l CharacterGap = brings-gap l CharacterGap
+brings l MessageGap = brings-gap l MessageGap
 
-pub told-nothing : {line : List ℕ} {d : Done Line Heard} → Outcome line d → foundOf (d .told) ≡ Nothing → d .told ≡ []
+-- ---- what was found is what was told
+
+-- For a case that cannot be: two constructors that are equal give 0 ≡ 1.
+pub never : {A : Type 0} → _≡_ {A = ℕ} 0 1 → A
+never z = absurd (omega arith)
+
+pub told-nothing : {l : Line} {e : Event} {d : Done Line Heard} → Brings l e d → foundOf (d .told) ≡ Nothing → d .told ≡ []
 unfolding foundOf
-told-nothing nothing e = refl
-told-nothing refusing e = absurd (let z : _≡_ {A = ℕ} 0 1 = cc in omega arith)
-told-nothing (whole l m) e = absurd (let z : _≡_ {A = ℕ} 0 1 = cc in omega arith)
+told-nothing nothing q = refl
+told-nothing cut q = never (cc)
+told-nothing low q = never (cc)
+told-nothing wrong q = never (cc)
+told-nothing (whole f) q = never (cc)
 
-pub told-refused : {line : List ℕ} {d : Done Line Heard} {x : Refusal} → Outcome line d → foundOf (d .told) ≡ Refused x → d .told ≡ refused x ∷ []
+pub told-refused : {l : Line} {e : Event} {d : Done Line Heard} {x : Refusal} → Brings l e d → foundOf (d .told) ≡ Refused x → d .told ≡ refused x ∷ []
 unfolding foundOf
-told-refused nothing e = absurd (let z : _≡_ {A = ℕ} 0 1 = cc in omega arith)
-told-refused refusing e = cc
-told-refused (whole l m) e = absurd (let z : _≡_ {A = ℕ} 0 1 = cc in omega arith)
+told-refused nothing q = never (cc)
+told-refused cut q = cc
+told-refused low q = cc
+told-refused wrong q = cc
+told-refused (whole f) q = never (cc)
 
 -- A packet with this head stands at the front of the line buffer.
 pub record Whole (line : List ℕ) (h : Head) (d : Done Line Heard) : Type 0 where
@@ -84,21 +88,27 @@ pub record Whole (line : List ℕ) (h : Head) (d : Done Line Heard) : Type 0 whe
   pub least : 4 ≤ h .length
   pub most : h .length ≤ 255
 
-pub told-packet : {line : List ℕ} {d : Done Line Heard} {h : Head} → Outcome line d → foundOf (d .told) ≡ Packet h → Whole line h d
-unfolding foundOf bodyIn headIn
-told-packet nothing e = absurd (let z : _≡_ {A = ℕ} 0 1 = cc in omega arith)
-told-packet refusing e = absurd (let z : _≡_ {A = ℕ} 0 1 = cc in omega arith)
-told-packet {line} {d} {h} (whole l m) e =
-    let n = getD line 0 0 in
-    let head : headIn (take n line) ≡ h = cc in
-    let long : h .length ≡ n = sym (ap (λ (k : Head). k .length) head) ∙ getD-take n line 0 0 (omega arith) in
-    record { told-is = rw long refl; idle = refl; least = omega arith; most = omega arith }
+pub told-packet : {l : Line} {e : Event} {d : Done Line Heard} {h : Head} (line : List ℕ) → Brings l e d → Bytes (storedOf e l line) → foundOf (d .told) ≡ Packet h →
+    Whole (storedOf e l line) h d
+unfolding foundOf storedOf over bodyIn headIn
+told-packet line nothing bytes q = never (cc)
+told-packet line cut bytes q = never (cc)
+told-packet line low bytes q = never (cc)
+told-packet line wrong bytes q = never (cc)
+told-packet {h = h} line (whole {got} {b} f) bytes q =
+    let s : List ℕ = got ++ (b ∷ []) in
+    let n = getD s 0 0 in
+    let k = accepted s f in
+    let least = k .least in
+    let most = k .enough in
+    let small = bytes .each 0 in
+    let first : getD (s ++ drop (length s) line) 0 0 ≡ n = List·getD-append s (drop (length s) line) 0 0 (omega arith) in
+    let head : headIn (take n s) ≡ h = cc in
+    let long : h .length ≡ n = ap (λ (x : Head). x .length) (sym head ∙ (accepted-head k ∙ k .head)) in
+    record { told-is = rw (long, take-append-le n s (drop (length s) line) (omega arith)) refl; idle = refl; least = omega arith; most = omega arith }
 
 -- The same for one event of a framer whose line buffer is long enough.
 module _ {f : Framer} {line : List ℕ} {e : Event} {r : Framed} {line′ : List ℕ} (h : 257 ≤ length line) (k : Frames f line e r line′) (bytes : Bytes line′) where
-  pub outcome : Outcome line′ (framerStep (lineOf f line) e)
-  outcome = let s : line′ ≡ storedOf e (lineOf f line) line = k .line-is ∙ stored f line e h in rw s (outcome-step (lineOf f line) line e (rw s at bytes))
-
   pub found-is : foundOf (framerStep (lineOf f line) e .told) ≡ r .found
   found-is = sym (ap (λ (q : Framed). q .found) (k .is ∙ enough f line e h))
 

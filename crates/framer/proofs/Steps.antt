@@ -9,10 +9,9 @@ use lib.Dec.{eqb, eqb·suc-zero}
 use lib.ListN.{length, take, set, length-append, length-take}
 use lib.Seq.{take-suc-set}
 use borrow.Author.Tests.{le-leb, lt-leb, lt-ltb, le-ltb, eq-eqb, ne-eqb}
-use Rattle.words.specs.Lists.{pick, over}
-use Rattle.words.specs.Machine.{Done}
+use Rattle.words.specs.Lists.{pick}
 use Rattle.words.proofs.Lists.{set-over}
-use Rattle.packet.specs.Packet.{headIn, bodyIn, checkOf}
+use Rattle.packet.specs.Packet.{checkOf}
 use Rattle.packet.specs.Refusals.{numberOf}
 use Rattle.packet.specs.Promises.{Number, Check}
 use Rattle.packet.specs.declared.Refusal.{Refusal}
@@ -21,12 +20,11 @@ use Rattle.packet.specs.declared.Head.{Head}
 use Rattle.packet.specs.declared.Checked.{Checked}
 use Rattle.packet.specs.declared.Checked.the-variants as checked
 use Rattle.packet.proofs.Theorems.{accepted, accepted-head}
-use Rattle.framer.specs.Framer.{Line, hearing, deaf, Heard, packet, refused, judged, atGap, atByte, framerStep}
+use Rattle.framer.specs.Framer.{hearing, deaf, judged, atGap, atByte, framerStep}
 use Rattle.framer.specs.Promises.{begunOf, lineOf, controlOf, foundOf, storedOf, framedOf, lineAfter, Idle, Begun, Gap, Unfinished, Frames}
 use Rattle.framer.specs.declared.Event.{Event}
 use Rattle.framer.specs.declared.Event.the-variants.{Byte, CharacterGap, MessageGap}
 use Rattle.framer.specs.declared.Framer.{Framer}
-use Rattle.framer.specs.declared.Found.{Found}
 use Rattle.framer.specs.declared.Found.the-variants.{Nothing, Packet, Refused}
 use Rattle.framer.specs.declared.Framed.{Framed}
 

@@ -1,5 +1,5 @@
 -- What a framer makes of a whole packet, and that its control value and line buffer keep what it stands for. Assumes nothing.
-use Prim.Native.Nat.{ℕ, zero, suc, _+_, _≤_, _<_}
+use Prim.Native.Nat.{ℕ, _+_, _≤_, _<_}
 use mathlib.Core.Path.{_≡_, refl, sym, ap, _∙_}
 use mathlib.Core.Bool.{Bool, true, false}
 use mathlib.Core.List.{List, [], _∷_, _++_, map, append-assoc, append-nil}
@@ -8,7 +8,7 @@ use lib.Dec.{eqb, leb}
 use lib.ListN.{length, getD, take, length-append, length-take, List·getD-append}
 use borrow.Author.Tests.{le-leb, leb-true, eqb-true}
 use Rattle.words.specs.Lists.{pick, Bytes, over}
-use Rattle.words.specs.Machine.{Done, after, through}
+use Rattle.words.specs.Machine.{after, through}
 use Rattle.words.proofs.Lists.{take-over, length-over}
 use Rattle.packet.specs.Packet.{seal, bodyIn, headIn, checkOf}
 use Rattle.packet.specs.Refusals.{numberOf}
@@ -18,7 +18,7 @@ use Rattle.packet.specs.declared.Checked.{Checked}
 use Rattle.packet.specs.declared.Checked.the-variants as checked
 use Rattle.packet.proofs.Theorems.{Body, sealed-check, sealed-body, few-cut, cut-short}
 use Rattle.packet.proofs.Writing.{length-seal}
-use Rattle.framer.specs.Framer.{Line, hearing, deaf, Heard, packet, refused, judged, atGap, atByte, framerStep}
+use Rattle.framer.specs.Framer.{Line, hearing, deaf, packet, judged, atGap, atByte, framerStep}
 use Rattle.framer.specs.Promises.{begunOf, lineOf, controlOf, storedOf, framedOf, lineAfter}
 use Rattle.framer.specs.declared.Framer.{Framer}
 use Rattle.framer.proofs.Steps.{enough, stored}

@@ -17,9 +17,10 @@ use Rattle.packet.specs.declared.Head.{Head}
 use Rattle.framer.specs.Framer.{Line, hearing, Heard, packet, refused, framerStep}
 use Rattle.framer.specs.declared.Found.the-variants.{Nothing, Packet, Refused}
 use Rattle.framer.specs.declared.Listened.{Listened}
-use Rattle.framer.proofs.Outcomes.{outcome, found-is, view-is, view-idle, told-nothing, told-refused, told-packet, Whole}
+use Rattle.framer.proofs.Outcomes.{brings, found-is, view-is, view-idle, told-nothing, told-refused, told-packet}
+use Rattle.framer.proofs.Steps.{stored}
 use Rattle.framer.proofs.Theorems.{length-after}
-use Rattle.framer.specs.Promises.{lineOf, foundOf, framedOf, lineAfter, Idle, Frames}
+use Rattle.framer.specs.Promises.{foundOf, framedOf, lineAfter, Idle, Frames}
 use Rattle.framer.specs.Halves.{placeOf, halfOf, lastOf, lineIn, keptIn, acceptedOf, receivedIn, listenedOf, bufferAfter, IdleHalves, Listens, Received, Kept, Place, Last}
 use Rattle.framer.specs.declared.Event.{Event}
 use Rattle.framer.specs.declared.Framer.{Framer}
@@ -198,24 +199,23 @@ module _ {h : Halves} {buffer : List ℕ} {e : Event} {r : Listened} {buffer′ 
 
   -- What was found is what was told.
   pub listened-nothing : r .found ≡ Nothing → framerStep (lineIn h buffer) e .told ≡ []
-  unfolding lineIn
-  listened-nothing q = told-nothing (outcome (enough-half h buffer e (k .long)) (frames-after h buffer e (k .long)) half-bytes) (found-told ∙ q)
+  listened-nothing q = told-nothing (brings (lineIn h buffer) e) (found-told ∙ q)
 
   pub listened-refused : {x : Refusal} → r .found ≡ Refused x → framerStep (lineIn h buffer) e .told ≡ refused x ∷ []
-  unfolding lineIn
-  listened-refused q = told-refused (outcome (enough-half h buffer e (k .long)) (frames-after h buffer e (k .long)) half-bytes) (found-told ∙ q)
+  listened-refused q = told-refused (brings (lineIn h buffer) e) (found-told ∙ q)
 
   pub listened-packet : {d : Head} → r .found ≡ Packet d → Arrived r buffer′ d (framerStep (lineIn h buffer) e)
   unfolding lineIn receivedIn
   listened-packet {d} q =
-      let w = told-packet (outcome (enough-half h buffer e (k .long)) (frames-after h buffer e (k .long)) half-bytes) (found-told ∙ q) in
+      let after = stored (h .framer) (halfOf (h .second) buffer) e (enough-half h buffer e (k .long)) in
+      let w = told-packet (halfOf (h .second) buffer) (brings (lineIn h buffer) e) (rw after at half-bytes) (found-told ∙ q) in
       let least = w .least in
       let most = w .most in
       let size = size-after h buffer e (k .long) in
       let there : receivedIn (r .halves) buffer′ (d .length) ≡ take (d .length) (halfAfter h buffer e) =
       simp (le-leb (d .length) 257 (omega arith)) (rw (halves-are, back-is) (front-back (h .second) buffer (halfAfter h buffer e) (k .long) size (d .length) (omega arith))) in
       record {
-        told-is = rw there (w .told-is);
+        told-is = rw (there, after) (w .told-is);
         idle = w .idle;
         least = least;
         most = most;

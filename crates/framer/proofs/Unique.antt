@@ -1,14 +1,34 @@
--- Each call's contract allows one outcome only: what is found, the control value, every byte of the line buffer. Assumes nothing.
+-- Each call's contract allows one outcome only: what is found, the control value, every byte of the line buffer or of the part handed out.
+-- Assumes nothing.
 use Prim.Native.Nat.{ℕ}
 use mathlib.Core.Path.{_≡_, sym, _∙_}
 use mathlib.Core.List.{List}
 use Rattle.framer.specs.Promises.{Idle, Frames}
+use Rattle.framer.specs.Halves.{IdleHalves, Listens, Received, Kept, AcceptsLast}
 use Rattle.framer.specs.declared.Event.{Event}
 use Rattle.framer.specs.declared.Framer.{Framer}
 use Rattle.framer.specs.declared.Framed.{Framed}
+use Rattle.framer.specs.declared.Halves.{Halves}
+use Rattle.framer.specs.declared.Listened.{Listened}
 
 pub idle-unique : {r r′ : Framer} → Idle r → Idle r′ → r ≡ r′
 idle-unique p q = p .is ∙ sym (q .is)
 
 pub hear-unique : {f : Framer} {line line₁ line₂ : List ℕ} {e : Event} {r r′ : Framed} → Frames f line e r line₁ → Frames f line e r′ line₂ → (r ≡ r′) × (line₁ ≡ line₂)
 hear-unique p q = (p .is ∙ sym (q .is), p .line-is ∙ sym (q .line-is))
+
+pub idle-halves-unique : {r r′ : Halves} → IdleHalves r → IdleHalves r′ → r ≡ r′
+idle-halves-unique p q = p .is ∙ sym (q .is)
+
+pub listen-unique : {h : Halves} {buffer buffer₁ buffer₂ : List ℕ} {e : Event} {r r′ : Listened} → Listens h buffer e r buffer₁ → Listens h buffer e r′ buffer₂ →
+    (r ≡ r′) × (buffer₁ ≡ buffer₂)
+listen-unique p q = (p .is ∙ sym (q .is), p .buffer-is ∙ sym (q .buffer-is))
+
+pub received-unique : {h : Halves} {buffer r r′ : List ℕ} {n : ℕ} → Received h buffer n r → Received h buffer n r′ → r ≡ r′
+received-unique p q = p .is ∙ sym (q .is)
+
+pub kept-unique : {h : Halves} {buffer r r′ : List ℕ} → Kept h buffer r → Kept h buffer r′ → r ≡ r′
+kept-unique p q = p .is ∙ sym (q .is)
+
+pub accept-unique : {h r r′ : Halves} {n : ℕ} → AcceptsLast h n r → AcceptsLast h n r′ → r ≡ r′
+accept-unique p q = p .is ∙ sym (q .is)

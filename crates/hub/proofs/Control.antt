@@ -21,10 +21,10 @@ use Rattle.packet.specs.declared.Built.the-variants.{Written, Refused}
 use Rattle.packet.proofs.Writing.{enough}
 use Rattle.framer.specs.Halves.{IdleHalves, AcceptsLast}
 use Rattle.framer.specs.declared.Halves.{Halves}
+use Rattle.framer.proofs.Outcomes.{never}
 use Rattle.hub.specs.Hub.{nakBytes}
-use Rattle.hub.specs.Promises.{Closed, SwitchedOn, Gatherings, soundOf, Within, OtherType, Bars, Accepts, Stays, Settles, Writes, nameBytes}
+use Rattle.hub.specs.Promises.{Closed, SwitchedOn, Gatherings, soundOf, Within, OtherType, Bars, acceptsName, Accepts, Stays, Settles, Writes, nameBytes}
 use Rattle.hub.specs.declared.Gathering.{Gathering}
-use Rattle.hub.specs.declared.Hub.{Hub}
 use Rattle.hub.specs.declared.Told.{Told}
 use Rattle.hub.specs.declared.Told.the-variants as told
 use Rattle.hub.specs.declared.Joined.{Joined}
@@ -54,12 +54,15 @@ unfolding soundOf
 sound-begun e w =
     record {
       is = simp (e, w .is);
-      sound = record { few = w .most; closed = λ f. absurd (let z : _≡_ {A = ℕ} 0 1 = cc in omega arith) };
+      sound = record { few = w .most; closed = λ f. never (cc) };
     }
 
 pub sound-closed : {g r : Gathering} → g .begun ≡ false → Closed (g .barred) r → Gatherings g r
 unfolding soundOf
 sound-closed e k = record { is = k .is ∙ simp e; sound = rw (k .is) (record { few = omega arith; closed = λ f. (refl, refl) }) }
+
+pub accepts-by : {t u : Told} {r : Bool} → t ≡ u → r ≡ acceptsName u → Accepts t r
+accepts-by e q = record { is = rw e q }
 
 module _ {h h′ : Halves} {n : ℕ} {joined : Joined} {a : Bool} {r : Stepped} (p : Accepts (joined .told) a) where
   pub settles-accepted : a ≡ true → AcceptsLast h n h′ → Stays h′ (joined .gathering) (joined .told) r → Settles h n joined r
@@ -89,9 +92,9 @@ module _ {room room′ : List ℕ} {y : Reply} {r : Built} (h : 7 ≤ length roo
   says-refused e =
       let b = built-reply room y h in
       let i = k .is in
-      absurd (let z : _≡_ {A = ℕ} 0 1 = cc in omega arith)
+      never (cc)
 
-nak-bytes : (cause : ℕ) → (cause ≡ 0 → ⊥) → nakBytes cause ≡ seal (replyBody host (Nak cause))
+pub nak-bytes : (cause : ℕ) → (cause ≡ 0 → ⊥) → nakBytes cause ≡ seal (replyBody host (Nak cause))
 unfolding nakBytes
 nak-bytes cause h = simp (ne-eqb cause 0 h)
 

@@ -1,34 +1,31 @@
 -- The level of the whole hub: what the framer found goes to the joiner, and control value and buffers stand for the next state. Assumes nothing.
-use Prim.Native.Nat.{ℕ, zero, suc, _+_, _*_, _/_, _≤_, _<_}
+use Prim.Native.Nat.{ℕ, _*_, _/_, _≤_, _<_}
 use mathlib.Core.Path.{_≡_, refl, sym, ap, _∙_}
-use mathlib.Core.Bool.{Bool, true, false, not}
-use mathlib.Core.List.{List, [], _∷_, _++_}
+use mathlib.Core.Bool.{Bool, true, false}
+use mathlib.Core.List.{List, [], _∷_}
 use native.Mathlib.Omega.{arith}
-use lib.Dec.{eqb, ltb, leb}
-use lib.ListN.{length, getD, take, length-take, length-set, length-append}
-use lib.Seq.{length-take-le}
-use borrow.Author.Tests.{le-leb, leb-true, le-ltb, lt-ltb, ltb-false}
+use lib.ListN.{length, getD, length-take, length-set}
+use borrow.Author.Tests.{le-leb, le-ltb, lt-ltb}
 use Rattle.words.specs.Lists.{pick, over}
-use Rattle.words.specs.Machine.{Done, after, through}
-use Rattle.words.proofs.Lists.{take-over, over-nil, over-take}
+use Rattle.words.specs.Machine.{Done, through}
+use Rattle.words.proofs.Lists.{take-over, over-nil}
 use Rattle.words.proofs.Machine.{through-one}
-use Rattle.packet.specs.Opcodes.{reader, decodeData}
-use Rattle.packet.specs.Packet.{dataIn, moreBit, statusAllowed, unmarked, resentEqual, isAnswer}
+use Rattle.packet.specs.Packet.{unmarked}
 use Rattle.packet.specs.declared.Refusal.{Refusal}
-use Rattle.packet.specs.declared.Refusal.the-variants as refusal
 use Rattle.packet.specs.declared.Head.{Head}
 use Rattle.framer.specs.Framer.{Line, hearing, Heard, packet, refused as noPacket, framerStep}
 use Rattle.framer.specs.Behind.{framed}
 use Rattle.framer.specs.Promises.{lineOf, begunOf}
-use Rattle.framer.specs.Halves.{halfOf, lastOf, lineIn, keptIn, receivedIn, listenedOf, bufferAfter, acceptedOf, Listens, Received, Kept as Keeping}
+use Rattle.framer.specs.Halves.{halfOf, lastOf, lineIn, keptIn, receivedIn, acceptedOf, Listens, Received, Kept as Keeping}
 use Rattle.framer.specs.declared.Event.{Event}
 use Rattle.framer.specs.declared.Event.the-variants.{Byte, CharacterGap, MessageGap}
 use Rattle.framer.specs.declared.Halves.{Halves}
 use Rattle.framer.specs.declared.Listened.{Listened}
 use Rattle.framer.specs.declared.Found.the-variants.{Nothing, Packet, Refused}
+use Rattle.framer.proofs.Outcomes.{never}
 use Rattle.framer.proofs.TwoHalves.{kept-listened, listened-nothing, listened-refused, listened-packet, line-behind, kept-behind, control-behind}
-use Rattle.hub.specs.Joiner.{Gathered, none, some, Joiner, Output, added, repeated, handed, refused, bytesOf, typeIn, pieceIn, otherType, joinStep, adding, joined, barring}
-use Rattle.hub.specs.Hub.{HubState, decodeStep, packetStep, heardStep, cleared, hubStep, answerBytes, messageBytes}
+use Rattle.hub.specs.Joiner.{Gathered, none, some, Joiner, Output, added, repeated, handed, refused, bytesOf}
+use Rattle.hub.specs.Hub.{HubState, packetStep, heardStep, cleared, hubStep, answerBytes, messageBytes}
 use Rattle.hub.specs.Promises.{nameOf, toldOf, answerOf, messageOf, soundOf, gatheredOf, joinerOf, gatheringOf, stateOf, accepts, acceptsName, controlAfter, clearedControl, tooSmall, nameBytes, Hears, Gatherings, Joins, Stays, Settles, Receives, Steps, NoRoom, Cleared, Writes}
 use Rattle.hub.specs.declared.Gathering.{Gathering}
 use Rattle.hub.specs.declared.Hub.{Hub}
@@ -36,6 +33,8 @@ use Rattle.hub.specs.declared.Told.the-variants as told
 use Rattle.hub.specs.declared.Joined.{Joined}
 use Rattle.hub.specs.declared.Stepped.{Stepped}
 use Rattle.hub.specs.declared.Answered.{Answered}
+use Rattle.hub.proofs.Joining.{still}
+use Rattle.hub.proofs.Outcomes.{Kept, kept, packet-outcome}
 
 -- ---- what is gathered
 
@@ -46,55 +45,6 @@ unfolding joinerOf soundOf gatheredOf bytesOf
 join-back b none last gather h = refl
 join-back b (some code bytes) last gather h = simp (le-leb (length bytes) 4096 h, take-over bytes gather (length bytes) refl)
 
--- A step of the joiner on a body: at most 4,096 bytes are gathered, and the last accepted packet is the body where it was accepted.
-pub record Kept (j : Joiner) (body : List ℕ) (d : Done Joiner Output) : Type 0 where
-  pub few : length (bytesOf (d .next .gathered)) ≤ 4096
-  pub last-is : d .next .last ≡ pick (accepts (d .told)) (unmarked body) (j .last)
-
-kept-pick : {j : Joiner} {body : List ℕ} {d d′ : Done Joiner Output} (b : Bool) → Kept j body d → (b ≡ false → Kept j body d′) → Kept j body (pick b d d′)
-kept-pick true p q = p
-kept-pick false p q = q refl
-
-module _ (j : Joiner) (body : List ℕ) (few : length (bytesOf (j .gathered)) ≤ 4096) where
-  kept-same : (ts : List Output) → accepts ts ≡ false → Kept j body (record { next = j; told = ts })
-  kept-same ts e = record { few = few; last-is = simp e }
-
-  kept-refused : (x : Refusal) → Kept j body (record { next = j; told = refused x ∷ [] })
-  unfolding accepts
-  kept-refused x = kept-same (refused x ∷ []) refl
-
-  kept-bar : Kept j body (barring j)
-  unfolding barring bytesOf accepts
-  kept-bar = record { few = omega arith; last-is = refl }
-
-  kept-joined : length (bytesOf (j .gathered)) + length (pieceIn body) ≤ 4096 → Kept j body (joined j body)
-  unfolding joined bytesOf accepts
-  kept-joined h = kept-pick (eqb (moreBit (getD body 3 0)) 0) (record { few = omega arith; last-is = refl }) (λ z. record { few = simp length-append (omega arith); last-is = refl })
-
-  kept-adding : Kept j body (adding j body)
-  unfolding adding
-  kept-adding =
-      let total = length (bytesOf (j .gathered)) + length (pieceIn body) in
-      kept-pick (otherType (j .gathered) (typeIn body)) kept-bar (λ y. kept-pick (ltb 4096 total) kept-bar (λ z. kept-joined (ltb-false 4096 total z)))
-
-  kept-join : Kept j body (joinStep j body)
-  unfolding joinStep accepts
-  kept-join = kept-pick (j .barred) kept-bar (λ y. kept-pick (resentEqual (j .last) body) (kept-same (repeated ∷ []) refl) (λ z. kept-adding))
-
-  kept-decode : Kept j body (decodeStep j body)
-  unfolding decodeStep
-  kept-decode = kept-pick (eqb (length (dataIn body)) 0) (kept-refused refusal.Data) (λ z. kept-join)
-
-  pub kept-packet : Kept j body (packetStep j body)
-  unfolding packetStep accepts
-  kept-packet =
-      kept-pick (isAnswer (getD body 1 0)) (kept-same [] refl)
-      (λ y. kept-pick (eqb (getD body 2 0) reader)
-      (kept-pick (statusAllowed (getD body 1 0) (getD body 3 0))
-      (kept-pick (eqb (getD body 1 0) decodeData) kept-decode (λ z. kept-refused refusal.Opcode))
-      (λ z. kept-refused refusal.Status))
-      (λ z. kept-refused refusal.Source))
-
 accepts-name : (ts : List Output) → acceptsName (toldOf ts) ≡ accepts ts
 unfolding accepts toldOf nameOf
 accepts-name [] = refl
@@ -103,42 +53,14 @@ accepts-name (repeated ∷ ts) = refl
 accepts-name (handed code bytes ∷ ts) = refl
 accepts-name (refused r ∷ ts) = refl
 
--- ---- a control value that is taken as it is
+-- A control value stands for at most 4,096 bytes.
+few-by : (g : Gathering) (last gather : List ℕ) (d : Bool) → g .begun ≡ d → length gather ≡ 4096 → length (bytesOf (joinerOf g last gather .gathered)) ≤ 4096
+unfolding joinerOf gatheredOf bytesOf
+few-by g last gather true e h = simp (e, length-take) (omega arith)
+few-by g last gather false e h = simp e (omega arith)
 
--- What waits in the buffer already stands there.
-over-gathered : (g : Gathering) (gather : List ℕ) (d : Bool) → g .begun ≡ d → over (bytesOf (gatheredOf g gather)) gather ≡ gather
-unfolding gatheredOf bytesOf
-over-gathered g gather true e = simp (e, over-take)
-over-gathered g gather false e = simp (e, over-nil)
-
-few-gathered : (g : Gathering) (gather : List ℕ) (d : Bool) → g .begun ≡ d → length (bytesOf (gatheredOf g gather)) ≤ length gather
-unfolding gatheredOf bytesOf
-few-gathered g gather true e = simp (e, length-take) (omega arith)
-few-gathered g gather false e = simp e (omega arith)
-
-sound-again : (barred begun : Bool) (code count : ℕ) (gather : List ℕ) (d : Bool) → leb count 4096 ≡ d → length gather ≡ 4096 →
-    gatheringOf (soundOf (record { barred = barred; begun = begun; code = code; count = count }) .barred) (gatheredOf (soundOf (record { barred = barred; begun = begun; code = code; count = count })) gather)
-    ≡ soundOf (record { barred = barred; begun = begun; code = code; count = count })
-unfolding soundOf gatheredOf
-sound-again barred true code count gather true e h = let m = leb-true count 4096 e in simp (e, length-take-le count gather (omega arith))
-sound-again barred true code count gather false e h = simp e
-sound-again barred false code count gather d e h = refl
-
--- Nothing comes of it for the joining.
-unchanged-joins : (g : Gathering) (last gather message : List ℕ) (ts : List Output) → length gather ≡ 4096 → messageOf ts ≡ [] →
-    Joins (record { next = joinerOf (soundOf g) last gather; told = ts }) gather message (record { gathering = soundOf g; told = toldOf ts }) gather message
-unfolding joinerOf
-unchanged-joins g last gather message ts h e =
-    record {
-      told-is = refl;
-      gathering-is = sym (sound-again (g .barred) (g .begun) (g .code) (g .count) gather (leb (g .count) 4096) refl h);
-      gather-is = sym (over-gathered (soundOf g) gather (soundOf g .begun) refl);
-      message-is = rw e (sym (over-nil message));
-    }
-
-few-joiner : (g : Gathering) (last gather : List ℕ) → length gather ≡ 4096 → length (bytesOf (joinerOf (soundOf g) last gather .gathered)) ≤ 4096
-unfolding joinerOf
-few-joiner g last gather h = let m = few-gathered (soundOf g) gather (soundOf g .begun) refl in omega arith
+pub few-joiner : (g : Gathering) (last gather : List ℕ) → length gather ≡ 4096 → length (bytesOf (joinerOf g last gather .gathered)) ≤ 4096
+few-joiner g last gather h = few-by g last gather (g .begun) refl h
 
 -- ---- a step of the hub
 
@@ -172,18 +94,18 @@ module _ {hub : Hub} {line : List ℕ} {e : Event} {l : Listened} {line′ : Lis
       Settles (l .halves) n j r →
       Steps hub line gather message e r line′ gather′ message′
   unfolding framed stateOf controlAfter joinerOf
-  settled {d} {n} {j} {r} {gather} {message} t kept h size idle joins settles =
+  settled {d} {n} {j} {r} {gather} {message} t k₁ h size idle joins settles =
       let a = accepts (d .told) in
       let g = gatheringOf (d .next .barred) (d .next .gathered) in
       let next : Hub = record { line = halvesBehind a (l .halves) n; gathering = g } in
       let hub-is : r .hub ≡ next = ap (λ (s : Stepped). s .hub) (settles .is) ∙ rw (joins .told-is, accepts-name (d .told), joins .gathering-is) refl in
       let last-is : unmarked (keptIn (next .line) line′) ≡ d .next .last =
-      ap unmarked (kept-behind k a n h) ∙ (unmarked-pick a (receivedIn (l .halves) line′ n) (keptIn (hub .line) line) ∙ sym (kept .last-is)) in
-      let long : a ≡ true → length (d .next .last) ≡ n = λ q. rw (kept .last-is, q) (length-unmarked (receivedIn (l .halves) line′ n) ∙ size q) in
+      ap unmarked (kept-behind k a n h) ∙ (unmarked-pick a (receivedIn (l .halves) line′ n) (keptIn (hub .line) line) ∙ sym (k₁ .last-is)) in
+      let long : a ≡ true → length (d .next .last) ≡ n = λ q. rw (k₁ .last-is, q) (length-unmarked (receivedIn (l .halves) line′ n) ∙ size q) in
       record {
         told-is = ap (λ (s : Stepped). s .told) (settles .is) ∙ (joins .told-is ∙ ap (λ (x : Done Joiner Output). toldOf (x .told)) (sym t));
         hub-is = hub-is ∙ sym (rw t (rw (← control-behind k a n (d .next .last) long) refl));
-        next = rw (hub-is, joins .gather-is, t, line-behind k a n idle, join-back (d .next .barred) (d .next .gathered) (keptIn (next .line) line′) gather (kept .few), last-is) refl;
+        next = rw (hub-is, joins .gather-is, t, line-behind k a n idle, join-back (d .next .barred) (d .next .gathered) (keptIn (next .line) line′) gather (k₁ .few), last-is) refl;
         line-is = k .buffer-is;
         gather-is = joins .gather-is ∙ ap (λ (x : Done Joiner Output). over (bytesOf (x .next .gathered)) gather) (sym t);
         message-is = joins .message-is ∙ ap (λ (x : Done Joiner Output). over (messageOf (x .told)) message) (sym t);
@@ -197,11 +119,11 @@ module _ {hub : Hub} {line : List ℕ} {e : Event} {l : Listened} {line′ : Lis
       Steps hub line gather message e r line′ gather message
   stayed {gather} {message} {g = g} {ts = ts} room a m t sound stays =
       settled {n = 0} t
-      (kept-same (joinerAt hub line gather) (receivedIn (l .halves) line′ 0) (few-joiner (hub .gathering) (keptIn (hub .line) line) gather room) ts a)
+      (record { few = few-joiner (soundOf (hub .gathering)) (keptIn (hub .line) line) gather room; last-is = simp a })
       (omega arith)
-      (λ z. absurd (let y : _≡_ {A = ℕ} 0 1 = cc in omega arith))
-      (λ z. absurd (let y : _≡_ {A = ℕ} 0 1 = cc in omega arith))
-      (unchanged-joins (hub .gathering) (keptIn (hub .line) line) gather message ts room m)
+      (λ z. never (cc))
+      (λ z. never (cc))
+      (still (soundOf (hub .gathering)) (keptIn (hub .line) line) gather message ts (rw (sound .is) at (sound .sound)) room refl refl m (record { is = refl }))
       (record { is = simp (accepts-name ts ∙ a, sym (sound .is)) (stays .is) })
 
   pub step-nothing : {gather message : List ℕ} {r : Stepped} {g : Gathering} → length gather ≡ 4096 → l .found ≡ Nothing → Gatherings (hub .gathering) g →
@@ -227,7 +149,7 @@ module _ {hub : Hub} {line : List ℕ} {e : Event} {l : Listened} {line′ : Lis
       let most = w .most in
       settled
       (rw (w .told-is) (through-one heardStep (joinerAt hub line gather) (packet (receivedIn (l .halves) line′ n))))
-      (kept-packet (joinerAt hub line gather) (receivedIn (l .halves) line′ n) (few-joiner (hub .gathering) (keptIn (hub .line) line) gather room))
+      (kept (few-joiner (soundOf (hub .gathering)) (keptIn (hub .line) line) gather room) (packet-outcome (joinerAt hub line gather) (receivedIn (l .halves) line′ n)))
       most
       (λ z. w .long)
       (λ z. w .idle)
@@ -242,7 +164,7 @@ pub received-packet : {h : Halves} {n : ℕ} {line body last gather message gath
     Joins (packetStep (joinerOf g last gather) body) gather message j gather′ message′ →
     Settles h n j r →
     Receives h g n line gather message r gather′ message′
-received-packet {j = j} received kept joins settles = record { joined = j; joins = rw (received .is, kept .is) at joins; settles = settles }
+received-packet {j = j} received last joins settles = record { joined = j; joins = rw (received .is, last .is) at joins; settles = settles }
 
 -- ---- one event
 

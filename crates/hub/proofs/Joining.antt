@@ -1,19 +1,19 @@
 -- One law for each answer of the joining: what a packet leaves in the control value, the gather buffer and the message room.
 -- Assumes nothing.
-use Prim.Native.Nat.{ℕ, zero, suc, _+_, _-_, _/_, _%_, _≤_, _<_}
+use Prim.Native.Nat.{ℕ, _+_, _-_, _/_, _%_, _≤_, _<_}
 use mathlib.Core.Path.{_≡_, refl, sym, ap, _∙_}
 use mathlib.Core.Bool.{Bool, true, false, not}
-use mathlib.Core.List.{List, [], _∷_, _++_, append-assoc}
+use mathlib.Core.List.{List, [], _∷_, _++_}
 use native.Mathlib.Omega.{arith}
 use lib.Dec.{eqb, ltb}
 use lib.ListN.{length, getD, take, drop, length-append, length-take, length-drop}
-use lib.Seq.{length-take-le, take-at, drop-at, drop-drop}
+use lib.Seq.{length-take-le}
 use borrow.Author.Tests.{eq-eqb, ne-eqb, lt-ltb, le-ltb}
 use Rattle.words.specs.Lists.{pick, over, overAt, Copied}
 use Rattle.words.specs.Machine.{Done}
 use Rattle.words.proofs.Lists.{over-nil, over-take, over-behind, length-over, part-over, copied-over, rest-part}
 use Rattle.packet.specs.Opcodes.{reader, decodeData}
-use Rattle.packet.specs.Packet.{dataIn, unmarked, resentEqual, isAnswer}
+use Rattle.packet.specs.Packet.{dataIn, unmarked}
 use Rattle.packet.specs.Promises.{DataPart, Allowed, Resent, IsAnswer}
 use Rattle.packet.specs.declared.Refusal.the-variants as refusal
 use Rattle.hub.specs.Joiner.{none, some, Joiner, Output, added, repeated, handed, refused, typeIn, pieceIn, otherType, bytesOf, barring, joined, adding, joinStep}
@@ -56,7 +56,7 @@ gathering-back g gather s l = gathering-by (g .barred) (g .begun) (g .code) (g .
 -- ---- steps that write nothing
 
 -- What changes nothing leaves every byte.
-still : (g : Gathering) (last gather message : List ℕ) (outs : List Output) {d : Done Joiner Output} {t : Told} {r : Joined} → Sound g → length gather ≡ 4096 →
+pub still : (g : Gathering) (last gather message : List ℕ) (outs : List Output) {d : Done Joiner Output} {t : Told} {r : Joined} → Sound g → length gather ≡ 4096 →
     d ≡ record { next = joinerOf g last gather; told = outs } → t ≡ toldOf outs → messageOf outs ≡ [] → Unchanged g t r → Joins d gather message r gather message
 unfolding joinerOf
 still g last gather message outs s l e n m u =

@@ -1,3 +1,7 @@
 pub mod Control
 pub mod Hearing
 pub mod Joining
+pub mod Outcomes
+pub mod Runs
+pub mod Theorems
+pub mod Unique

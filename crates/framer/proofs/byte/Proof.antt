@@ -1,5 +1,5 @@
 -- `framer::byte` meets its contract: the check on the bytes so far, and one law for each answer. Assumes nothing.
-use mathlib.Core.Path.{refl, sym}
+use mathlib.Core.Path.{refl}
 use native.Mathlib.Omega.{arith}
 use lib.ListN.{length-set, length-take}
 use Rattle.framer.proofs.Steps.{byte-deaf, byte-packet, byte-refused}

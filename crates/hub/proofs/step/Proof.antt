@@ -1,5 +1,4 @@
 -- `hub::step` meets its contract: nothing, a refusal, or a packet for the joining. Assumes nothing.
-use native.Mathlib.Omega.{arith}
 use Rattle.hub.proofs.Hearing.{step-nothing, step-refused, step-packet}
 use Rattle.framer.proofs.TwoHalves.{listened-packet}
 use borrow.Author.Needs.{needs}

@@ -1,0 +1,21 @@
+-- `hub_lister::stream::end` is safe: the line lies within the room. Assumes nothing.
+use native.Mathlib.Omega.{arith}
+use Rattle.hub_lister.proofs.Sessions.{finish-inside}
+use borrow.Author.Needs.{needs}
+use Rattle.hub_lister.proofs.stream.end.Statement.{statement}
+use Rattle.hub_lister.proofs.stream.end.Tie as tie
+
+finish-requires : tie.Need-finish-requires
+finish-requires c κs = search needs
+
+write-requires : tie.Need-write-requires
+write-requires c κs = omega (arith, finish-inside (c .before .before .before .finish .ensures))
+
+same-length : tie.Need-same-length
+same-length c = search needs
+
+returns : tie.Need-returns
+returns c = search needs
+
+pub end-spec : {M : Type 1} → statement M
+end-spec = tie.close (tie.spec finish-requires write-requires same-length returns)

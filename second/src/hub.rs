@@ -1,0 +1,135 @@
+//! The hub: joins decode data into messages and answers each packet.
+
+use crate::framer::{Framed, Framer, LineEvent};
+use crate::packet::{ack, nak, Packet, Refusal, DECODE_DATA, HOST, MORE, READER};
+
+/// The longest message, its code type not counted.
+pub const LONGEST_MESSAGE: usize = 4_096;
+
+#[derive(Clone, PartialEq, Eq, Debug)]
+pub struct Message {
+    pub code_type: u8,
+    pub bytes: Vec<u8>,
+}
+
+/// What an event came to.
+#[derive(Clone, PartialEq, Eq, Debug)]
+pub enum Done {
+    Nothing,
+    /// The reader's ACK or NAK, right or wrong.
+    Ignored,
+    Refused(Refusal),
+    /// A resent equal of the last accepted packet: answered, not added.
+    Repeated,
+    Added,
+    HandedOut(Message),
+}
+
+pub struct HubStep {
+    /// The packet that the framer let through at this event, for those who watch.
+    pub packet: Option<Packet>,
+    pub done: Done,
+}
+
+impl HubStep {
+    pub fn answer(&self) -> Option<Vec<u8>> {
+        match &self.done {
+            Done::Nothing | Done::Ignored => None,
+            Done::Refused(refusal) => refusal.cause().map(|cause| nak(HOST, cause)),
+            Done::Repeated | Done::Added | Done::HandedOut(_) => Some(ack(HOST)),
+        }
+    }
+}
+
+#[derive(Default)]
+pub struct Hub {
+    framer: Framer,
+    /// The last accepted packet, without mark and checksum.
+    last: Option<Vec<u8>>,
+    barred: bool,
+    /// The pieces gathered so far. An empty piece opens a message too: it fixes the type.
+    gathered: Option<Message>,
+}
+
+impl Hub {
+    pub fn take(&mut self, event: LineEvent) -> HubStep {
+        let step = match self.framer.take(event) {
+            Framed::Nothing => HubStep { packet: None, done: Done::Nothing },
+            Framed::Refused(refusal) => HubStep { packet: None, done: Done::Refused(refusal) },
+            Framed::Packet(packet) => {
+                let done = self.packet(&packet);
+                HubStep { packet: Some(packet), done }
+            }
+        };
+        if event == LineEvent::MessageGap {
+            // Only after the refusal 3 that may have been due.
+            *self = Hub::default();
+        }
+        step
+    }
+
+    fn packet(&mut self, packet: &Packet) -> Done {
+        if packet.is_answer() {
+            return Done::Ignored;
+        }
+        match judge(packet) {
+            Err(refusal) => Done::Refused(refusal),
+            Ok(()) => self.decode_data(packet),
+        }
+    }
+
+    /// In this order: bar, repeat, type, total.
+    fn decode_data(&mut self, packet: &Packet) -> Done {
+        if self.barred {
+            return Done::Refused(Refusal::Hub);
+        }
+        if self.is_repeat(packet) {
+            return Done::Repeated;
+        }
+        let code_type = packet.data()[0];
+        let piece = &packet.data()[1..];
+        let mut message = self.gathered.take().unwrap_or(Message { code_type, bytes: Vec::new() });
+        if message.code_type != code_type || message.bytes.len() + piece.len() > LONGEST_MESSAGE {
+            // What was gathered is dropped here with `message`; the last accepted packet is kept.
+            self.barred = true;
+            return Done::Refused(Refusal::Hub);
+        }
+        message.bytes.extend_from_slice(piece);
+        self.last = Some(packet.without_mark());
+        if packet.status() & MORE == 0 {
+            return Done::HandedOut(message);
+        }
+        self.gathered = Some(message);
+        Done::Added
+    }
+
+    /// A marked packet that is equal to the last accepted one apart from the mark.
+    pub fn is_repeat(&self, packet: &Packet) -> bool {
+        packet.marked() && self.last == Some(packet.without_mark())
+    }
+
+    pub fn framer(&self) -> &Framer {
+        &self.framer
+    }
+
+    pub fn last_accepted(&self) -> Option<&[u8]> {
+        self.last.as_deref()
+    }
+
+    pub fn barred(&self) -> bool {
+        self.barred
+    }
+
+    pub fn gathered(&self) -> Option<&Message> {
+        self.gathered.as_ref()
+    }
+}
+
+/// Refusals 4 to 7.
+fn judge(packet: &Packet) -> Result<(), Refusal> {
+    packet.judge_header(READER, |opcode| opcode == DECODE_DATA)?;
+    if packet.data().is_empty() {
+        return Err(Refusal::DataLength);
+    }
+    Ok(())
+}

@@ -1,0 +1,531 @@
+//! A lossy line between the two proved programs. This program is the wire: it starts messages at the reader, carries
+//! copies and answers, loses or spoils some, and checks from outside what the demand on the line promises.
+
+use std::collections::VecDeque;
+use std::io::{BufRead, BufReader, Write};
+use std::process::{Child, ChildStdin};
+use std::sync::mpsc::{channel, Receiver, RecvTimeoutError};
+use std::thread;
+use std::time::{Duration, Instant};
+
+use crate::compare::Programs;
+use crate::dice::Dice;
+use crate::framer::{Framed, Framer, LineEvent};
+use crate::hub::{Message, LONGEST_MESSAGE};
+use crate::listing::{push_bytes, Listing, Side};
+use crate::packet::{lay_out, written, CHECKSUM, CMD_ACK, DECODE_DATA, HEADER, MARK, MORE, READER};
+use crate::program::spawn;
+use crate::streams::{open_stream, spoiled};
+
+pub const MESSAGES: u64 = 10_000;
+/// After so many messages both ends get noise and are brought back to the state that the demand starts from.
+const ROUND: u64 = 50;
+const LIMIT: Duration = Duration::from_secs(20);
+const REMEMBERED: usize = 40;
+
+/// What was wrong, in words.
+type Breach = String;
+
+/// One of the two programs, with a machine of this program beside it that knows how many lines are due.
+struct Coupled {
+    name: &'static str,
+    child: Child,
+    to: ChildStdin,
+    lines: Receiver<String>,
+    own: Listing,
+    /// What was said last, to be shown after a breach.
+    log: VecDeque<String>,
+}
+
+impl Coupled {
+    fn start(name: &'static str, path: &str, side: Side) -> std::io::Result<Coupled> {
+        let (child, to, from) = spawn(path)?;
+        let (send, lines) = channel();
+        thread::spawn(move || {
+            for line in BufReader::new(from).lines() {
+                if line.map(|line| send.send(line)).is_err() {
+                    return;
+                }
+            }
+        });
+        Ok(Coupled { name, child, to, lines, own: Listing::new(side), log: VecDeque::new() })
+    }
+
+    /// Sends a part of the input and gives the lines that the program prints for it.
+    fn tell(&mut self, text: &[u8]) -> Result<Vec<String>, Breach> {
+        self.note(format!("<- {}", text.escape_ascii()));
+        let mut due = Vec::new();
+        self.own.feed(text, &mut due);
+        let due = String::from_utf8(due).expect("plain lines");
+        let sent = self.to.write_all(text).and_then(|()| self.to.flush());
+        sent.map_err(|error| format!("{} takes no more: {error}", self.name))?;
+        due.lines().map(|line| self.next_line(line)).collect()
+    }
+
+    fn next_line(&mut self, due: &str) -> Result<String, Breach> {
+        match self.lines.recv_timeout(LIMIT) {
+            Ok(line) => {
+                self.note(format!("-> {line}"));
+                if line == due {
+                    Ok(line)
+                } else {
+                    Err(format!("{} printed {line:?} where {due:?} was due", self.name))
+                }
+            }
+            Err(RecvTimeoutError::Timeout) => Err(format!("{} did not print {due:?} in time", self.name)),
+            Err(RecvTimeoutError::Disconnected) => Err(format!("{} ended before {due:?}", self.name)),
+        }
+    }
+
+    fn note(&mut self, what: String) {
+        if self.log.len() == REMEMBERED {
+            self.log.pop_front();
+        }
+        self.log.push_back(what);
+    }
+
+    /// Ends the input; nothing more may come.
+    fn close(mut self) -> Result<(), Breach> {
+        drop(self.to);
+        let more = match self.lines.recv_timeout(LIMIT) {
+            Ok(line) => Err(format!("{} printed {line:?} with nothing due", self.name)),
+            Err(RecvTimeoutError::Timeout) => Err(format!("{} does not end", self.name)),
+            Err(RecvTimeoutError::Disconnected) => Ok(()),
+        };
+        if more.is_err() {
+            let _ = self.child.kill();
+        }
+        let _ = self.child.wait();
+        more
+    }
+
+    fn show_log(&self) {
+        println!("last said with {}:", self.name);
+        self.log.iter().for_each(|what| println!("  {what}"));
+    }
+}
+
+#[derive(Clone, Copy, PartialEq, Eq)]
+enum Fate {
+    Whole,
+    Lost,
+    Spoiled,
+}
+
+/// Lost and spoiled of a hundred, going and coming back.
+#[derive(Clone, Copy)]
+struct Weather {
+    copies: [usize; 2],
+    answers: [usize; 2],
+}
+
+const WEATHERS: [Weather; 7] = [
+    Weather { copies: [0, 0], answers: [0, 0] },
+    Weather { copies: [5, 5], answers: [5, 5] },
+    Weather { copies: [20, 15], answers: [15, 20] },
+    Weather { copies: [0, 0], answers: [50, 0] },
+    Weather { copies: [0, 60], answers: [0, 0] },
+    Weather { copies: [10, 10], answers: [30, 30] },
+    Weather { copies: [35, 35], answers: [10, 10] },
+];
+
+#[derive(Default)]
+struct Counts {
+    messages: u64,
+    delivered: u64,
+    failed: u64,
+    failed_yet_handed_out: u64,
+    copies: u64,
+    marked_copies: u64,
+    third_copies: u64,
+    copies_lost: u64,
+    copies_spoiled: u64,
+    answers: u64,
+    answers_lost: u64,
+    answers_spoiled: u64,
+    time_outs: u64,
+}
+
+/// A message on its way.
+struct Outgoing {
+    message: Message,
+    /// Its packets without the mark.
+    packets: Vec<Vec<u8>>,
+    /// The packet sent last.
+    at: usize,
+    /// For each copy of that packet, whether copy and answer both came through.
+    tries: Vec<bool>,
+    /// An ACK for that packet came whole to the reader.
+    acked: bool,
+    marked: usize,
+    handed_out: bool,
+}
+
+/// What the reader did about its message.
+enum Said {
+    Nothing,
+    Copy(Vec<u8>),
+    Delivered(usize),
+    Failed(usize),
+}
+
+struct Wire {
+    hub: Coupled,
+    reader: Coupled,
+    dice: Dice,
+    weather: Weather,
+    /// The packet sent last since the last message gap: the next one must be another.
+    previous: Option<Vec<u8>>,
+    counts: Counts,
+}
+
+/// Whether the demand held.
+pub fn line(programs: &Programs, seed: u64, messages: u64) -> std::io::Result<bool> {
+    let begin = Instant::now();
+    let mut wire = Wire {
+        hub: Coupled::start("the hub", programs.hub, Side::Hub)?,
+        reader: Coupled::start("the reader", programs.reader, Side::Reader)?,
+        dice: Dice::new(seed),
+        weather: WEATHERS[0],
+        previous: None,
+        counts: Counts::default(),
+    };
+    let ran = wire.run(messages);
+    wire.counts.print(begin.elapsed());
+    if let Err(breach) = ran {
+        println!("BREACH (seed {seed}): {breach}");
+        wire.hub.show_log();
+        wire.reader.show_log();
+        for mut child in [wire.hub.child, wire.reader.child] {
+            let _ = child.kill();
+            let _ = child.wait();
+        }
+        return Ok(false);
+    }
+    let closed = wire.hub.close().and(wire.reader.close());
+    match &closed {
+        Ok(()) => println!("the demand held"),
+        Err(breach) => println!("BREACH (seed {seed}): {breach}"),
+    }
+    Ok(closed.is_ok())
+}
+
+impl Wire {
+    fn run(&mut self, messages: u64) -> Result<(), Breach> {
+        for number in 0..messages {
+            if number % ROUND == 0 && number > 0 {
+                self.new_round()?;
+            }
+            let message = self.choose();
+            self.carry(message)?;
+        }
+        Ok(())
+    }
+
+    /// Noise at both ends, then a message gap at the hub and, at the reader, nothing out, nothing begun, 9Fh on.
+    fn new_round(&mut self) -> Result<(), Breach> {
+        let events = self.dice.between(1, 400) as u64;
+        let mut text = open_stream(Side::Hub, self.dice.next(), events).text;
+        text.extend_from_slice(b" /\n");
+        self.hub.tell(&text)?;
+        let mut text = open_stream(Side::Reader, self.dice.next(), events).text;
+        text.extend_from_slice(b" P 04 C8 04 00 FF 30 .\n");
+        self.reader.tell(&text)?;
+        self.previous = None;
+        self.weather = self.dice.pick(&WEATHERS);
+        Ok(())
+    }
+
+    /// A message of which no packet equals the one sent before it, as the demand assumes.
+    fn choose(&mut self) -> Message {
+        loop {
+            let message = draw(&mut self.dice);
+            let packets = packets_of(&message);
+            let before = self.previous.iter().chain(&packets);
+            if before.zip(packets.iter().skip(usize::from(self.previous.is_none()))).all(|(one, next)| one != next) {
+                return message;
+            }
+        }
+    }
+
+    fn carry(&mut self, message: Message) -> Result<(), Breach> {
+        self.counts.messages += 1;
+        let mut text = b"S".to_vec();
+        push_bytes(&[message.code_type], &mut text);
+        push_bytes(&message.bytes, &mut text);
+        text.extend_from_slice(b" ;\n");
+        let mut out = Outgoing::new(message);
+        let mut lines = self.reader.tell(&text)?;
+        let mut timed_out = false;
+        loop {
+            match said(&lines)? {
+                Said::Nothing if timed_out => return Err("a time-out with a message out did nothing".into()),
+                Said::Nothing => {
+                    timed_out = true;
+                    self.counts.time_outs += 1;
+                    lines = self.reader.tell(b"T\n")?;
+                }
+                Said::Copy(copy) => {
+                    timed_out = false;
+                    out.next_copy(&copy, &mut self.counts)?;
+                    lines = self.exchange(&mut out, &copy)?;
+                }
+                Said::Delivered(marked) => return self.delivered(out, marked),
+                Said::Failed(marked) => return self.failed(out, marked),
+            }
+        }
+    }
+
+    /// A copy to the hub and its answer back, each with its gap; gives what the reader says to it.
+    fn exchange(&mut self, out: &mut Outgoing, copy: &[u8]) -> Result<Vec<String>, Breach> {
+        let going = fate(&mut self.dice, self.weather.copies);
+        self.counts.copies_lost += u64::from(going == Fate::Lost);
+        self.counts.copies_spoiled += u64::from(going == Fate::Spoiled);
+        let arrived = after(&mut self.dice, going, copy);
+        let lines = self.hub.tell(&with_gap(&arrived))?;
+        let Some(answer) = out.hub_said(&lines)? else {
+            out.tries.push(going == Fate::Whole);
+            return Ok(Vec::new());
+        };
+        let coming = fate(&mut self.dice, self.weather.answers);
+        self.counts.answers += 1;
+        self.counts.answers_lost += u64::from(coming == Fate::Lost);
+        self.counts.answers_spoiled += u64::from(coming == Fate::Spoiled);
+        out.tries.push(going == Fate::Whole && coming == Fate::Whole);
+        out.acked = coming == Fate::Whole && answer[1] == CMD_ACK;
+        let arrived = after(&mut self.dice, coming, &answer);
+        self.reader.tell(&with_gap(&arrived))
+    }
+
+    fn delivered(&mut self, mut out: Outgoing, marked: usize) -> Result<(), Breach> {
+        self.counts.delivered += 1;
+        out.marks_told(marked)?;
+        if !out.handed_out {
+            return Err("a message called delivered was not handed out".into());
+        }
+        if !out.acked || out.at + 1 != out.packets.len() {
+            return Err("a message was called delivered without the ACK of its last packet".into());
+        }
+        self.previous = out.packets.pop();
+        Ok(())
+    }
+
+    fn failed(&mut self, out: Outgoing, marked: usize) -> Result<(), Breach> {
+        self.counts.failed += 1;
+        self.counts.failed_yet_handed_out += u64::from(out.handed_out);
+        out.marks_told(marked)?;
+        if out.tries != [false; 3] {
+            return Err(format!("a message failed with tries that came through or were not made: {:?}", out.tries));
+        }
+        self.previous = None;
+        let lines = self.hub.tell(b"/\n")?;
+        if lines.is_empty() {
+            Ok(())
+        } else {
+            Err("the hub said something at the gap after a failed message".into())
+        }
+    }
+}
+
+impl Outgoing {
+    fn new(message: Message) -> Outgoing {
+        Outgoing {
+            packets: packets_of(&message),
+            message,
+            at: 0,
+            tries: Vec::new(),
+            acked: false,
+            marked: 0,
+            handed_out: false,
+        }
+    }
+
+    /// The copy must be the next packet after an ACK, else the same packet, marked, and at most three in all.
+    fn next_copy(&mut self, copy: &[u8], counts: &mut Counts) -> Result<(), Breach> {
+        counts.copies += 1;
+        if self.acked {
+            self.acked = false;
+            self.at += 1;
+            self.tries.clear();
+        }
+        let Some(packet) = self.packets.get(self.at) else {
+            return Err("a packet beyond the message".into());
+        };
+        let again = !self.tries.is_empty();
+        if copy != with_mark(packet, again) {
+            return Err("the copy is not the packet due".into());
+        }
+        self.marked += usize::from(again);
+        counts.marked_copies += u64::from(again);
+        counts.third_copies += u64::from(self.tries.len() == 2);
+        if self.tries.len() >= 3 {
+            return Err("a packet was sent more than three times".into());
+        }
+        Ok(())
+    }
+
+    /// Checks what the hub hands out, and gives its answer.
+    fn hub_said(&mut self, lines: &[String]) -> Result<Option<Vec<u8>>, Breach> {
+        let mut answer = None;
+        for line in lines {
+            let bytes = bytes_of(line)?;
+            match (&line[..1], &answer) {
+                ("A", None) => answer = Some(bytes),
+                ("M", None) => self.hand_out(&bytes)?,
+                _ => return Err(format!("the hub said too much: {line:?}")),
+            }
+        }
+        Ok(answer)
+    }
+
+    fn hand_out(&mut self, bytes: &[u8]) -> Result<(), Breach> {
+        if self.handed_out {
+            return Err("a message was handed out twice".into());
+        }
+        if bytes[0] != self.message.code_type || bytes[1..] != self.message.bytes {
+            return Err("a message was handed out that was not sent so".into());
+        }
+        self.handed_out = true;
+        Ok(())
+    }
+
+    fn marks_told(&self, marked: usize) -> Result<(), Breach> {
+        if marked == self.marked {
+            return Ok(());
+        }
+        Err(format!("{marked} marked copies told, {} were written", self.marked))
+    }
+}
+
+impl Counts {
+    fn print(&self, took: Duration) {
+        let rows = [
+            (self.messages, "messages"),
+            (self.delivered, "delivered"),
+            (self.failed, "failed"),
+            (self.failed_yet_handed_out, "failed, yet handed out"),
+            (self.copies, "copies"),
+            (self.marked_copies, "resends (marked copies)"),
+            (self.third_copies, "third copies of a packet"),
+            (self.copies_lost, "copies lost"),
+            (self.copies_spoiled, "copies spoiled"),
+            (self.answers, "answers"),
+            (self.answers_lost, "answers lost"),
+            (self.answers_spoiled, "answers spoiled"),
+            (self.time_outs, "time-outs"),
+        ];
+        for (count, name) in rows {
+            println!("{count:>10}  {name}");
+        }
+        println!("in {:.1} s", took.as_secs_f64());
+    }
+}
+
+// Messages.
+
+/// Small alphabets and few types, so that neighbours are often nearly equal.
+fn draw(dice: &mut Dice) -> Message {
+    let size = match dice.weigh(&[8, 25, 37, 10, 8, 8, 4]) {
+        0 => 0,
+        1 => 1,
+        2 => dice.between(2, 10),
+        3 => dice.pick(&[249, 250, 251, 252]),
+        4 => dice.pick(&[499, 500, 501, 751]),
+        5 => dice.between(600, 2_000),
+        _ => dice.pick(&[LONGEST_MESSAGE - 1, LONGEST_MESSAGE, LONGEST_MESSAGE]),
+    };
+    let letters: &[u8] = dice.pick(&[&b"8"[..], b"89", b"0123456789", &[0x00, 0x04, 0xFF, 0xF3]]);
+    let code_type = dice.pick(&[0x1B, 0x1B, 0x1C]);
+    let mut bytes: Vec<u8> = (0..size).map(|_| dice.pick(letters)).collect();
+    // A changed byte keeps long messages of one letter from being drawn in vain.
+    for at in (0..size).step_by(250) {
+        if dice.chance(70) {
+            bytes[at] = dice.byte();
+        }
+    }
+    Message { code_type, bytes }
+}
+
+/// The packets of a message: pieces of 250 bytes, the last one the rest, an empty message one piece.
+pub fn packets_of(message: &Message) -> Vec<Vec<u8>> {
+    let mut pieces: Vec<&[u8]> = message.bytes.chunks(250).collect();
+    if pieces.is_empty() {
+        pieces.push(&[]);
+    }
+    let last = pieces.len() - 1;
+    let packet = |(i, piece): (usize, &&[u8])| {
+        let status = if i < last { MORE } else { 0 };
+        written(DECODE_DATA, READER, status, &[&[message.code_type], *piece].concat())
+    };
+    pieces.iter().enumerate().map(packet).collect()
+}
+
+fn with_mark(packet: &[u8], marked: bool) -> Vec<u8> {
+    let mark = if marked { MARK } else { 0 };
+    lay_out(packet[1], packet[2], packet[3] | mark, &packet[HEADER..packet.len() - CHECKSUM])
+}
+
+// The wire.
+
+fn fate(dice: &mut Dice, [lost, bad]: [usize; 2]) -> Fate {
+    match dice.weigh(&[lost, bad, 100 - lost - bad]) {
+        0 => Fate::Lost,
+        1 => Fate::Spoiled,
+        _ => Fate::Whole,
+    }
+}
+
+/// What arrives of a copy or an answer.
+fn after(dice: &mut Dice, fate: Fate, bytes: &[u8]) -> Vec<u8> {
+    match fate {
+        Fate::Whole => bytes.to_vec(),
+        Fate::Lost => Vec::new(),
+        Fate::Spoiled => loop {
+            let other = spoiled(dice, bytes);
+            if !other.is_empty() && holds_no_packet(&other) {
+                return other;
+            }
+        },
+    }
+}
+
+/// A framer that starts with nothing begun lets no packet through. What is not changed enough holds one.
+fn holds_no_packet(bytes: &[u8]) -> bool {
+    let mut framer = Framer::default();
+    bytes.iter().all(|byte| !matches!(framer.take(LineEvent::Byte(*byte)), Framed::Packet(_)))
+}
+
+/// The gap comes in any case, that of a lost copy or answer too.
+fn with_gap(bytes: &[u8]) -> Vec<u8> {
+    let mut text = Vec::new();
+    push_bytes(bytes, &mut text);
+    text.extend_from_slice(b" .\n");
+    text
+}
+
+// The programs' lines.
+
+fn bytes_of(line: &str) -> Result<Vec<u8>, Breach> {
+    let pairs = line.split(' ').skip(1);
+    let bytes: Result<Vec<u8>, _> = pairs.map(|pair| u8::from_str_radix(pair, 16)).collect();
+    bytes.map_err(|error| format!("{line:?}: {error}"))
+}
+
+fn number_of(line: &str) -> Result<usize, Breach> {
+    line[1..].trim().parse().map_err(|error| format!("{line:?}: {error}"))
+}
+
+/// With a message out and no command on the line, refusals 1 to 3 may be told but nothing else sent.
+fn said(lines: &[String]) -> Result<Said, Breach> {
+    let mut said = Said::Nothing;
+    for line in lines {
+        match (&line[..1], &said) {
+            ("R", Said::Nothing) if matches!(number_of(line)?, 1..=3) => {}
+            ("C", Said::Nothing) => said = Said::Copy(bytes_of(line)?),
+            ("D", Said::Nothing) => said = Said::Delivered(number_of(line)?),
+            ("F", Said::Nothing) => said = Said::Failed(number_of(line)?),
+            _ => return Err(format!("the reader said too much: {line:?}")),
+        }
+    }
+    Ok(said)
+}

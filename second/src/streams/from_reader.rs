@@ -1,0 +1,339 @@
+//! What may come to a hub: decode data and everything that isn't.
+
+use super::damage::{contents, cut, damaged};
+use super::pen::Pen;
+use super::{Line, Stream};
+use crate::dice::Dice;
+use crate::framer::LineEvent;
+use crate::hub::{Hub, LONGEST_MESSAGE};
+use crate::listing::Side;
+use crate::packet::*;
+use crate::sights::ENDINGS_SEEN;
+use crate::watch_hub::{HubLook, HubWatch};
+
+const TYPES: [u8; 6] = [0x1B, 0x1B, 0x1C, 0x01, 0x00, 0xFF];
+/// How many packets are kept, to be sent again.
+const KEPT: usize = 8;
+
+pub struct FromReader {
+    dice: Dice,
+    pen: Pen,
+    hub: Hub,
+    watch: HubWatch,
+    /// Packets sent not long ago.
+    kept: Vec<Vec<u8>>,
+}
+
+impl Line for FromReader {
+    fn dice(&mut self) -> &mut Dice {
+        &mut self.dice
+    }
+
+    fn event(&mut self, event: LineEvent) {
+        self.pen.line(event);
+        let before = HubLook::at(&self.hub);
+        let step = self.hub.take(event);
+        self.watch.see(before, event, &step, &self.hub);
+    }
+}
+
+impl FromReader {
+    pub fn new(seed: u64) -> FromReader {
+        let mut dice = Dice::new(seed);
+        FromReader { pen: Pen::new(dice.next()), dice, hub: Hub::default(), watch: HubWatch::new(), kept: Vec::new() }
+    }
+
+    pub fn stream(mut self, events: u64, ending: bool) -> Stream {
+        while self.pen.events < events {
+            self.step();
+        }
+        if ending {
+            let member = self.pen.ending(Side::Hub);
+            self.watch.sights.see_member(ENDINGS_SEEN, member);
+        }
+        self.done()
+    }
+
+    pub fn done(self) -> Stream {
+        Stream { text: self.pen.text, events: self.pen.events, sights: self.watch.sights }
+    }
+
+    fn step(&mut self) {
+        // A deaf hub hears nothing, so most of what is sent then is lost work.
+        if self.hub.framer().deaf() && self.dice.chance(60) {
+            return self.event(LineEvent::Gap);
+        }
+        if self.hub.barred() {
+            self.step_while_barred();
+        } else {
+            self.step_while_open();
+        }
+    }
+
+    fn step_while_open(&mut self) {
+        match self.dice.weigh(&[300, 130, 30, 30, 40, 30, 90, 70, 50, 60, 30, 40, 15, 4]) {
+            0 => self.piece(),
+            1 => self.resend_last(),
+            2 => self.resend_kept(),
+            3 => self.other_type(),
+            4 => self.spoiled_then_resent(),
+            5 => self.empty_packet(),
+            6 => self.damaged(),
+            7 => self.cut(),
+            8 => self.answer(),
+            9 => self.any_packet(),
+            10 => self.garbage(),
+            11 => self.event(LineEvent::Gap),
+            12 => self.gap_then_resend(),
+            _ => self.long_message(),
+        }
+    }
+
+    /// Everything that may follow at a barred hub, and now and then the gap that lifts the bar.
+    fn step_while_barred(&mut self) {
+        match self.dice.weigh(&[20, 15, 8, 10, 8, 10, 10, 5, 4, 8, 10]) {
+            0 => self.piece(),
+            1 => self.resend_last(),
+            2 => self.resend_kept(),
+            3 => self.damaged(),
+            4 => self.cut(),
+            5 => self.answer(),
+            6 => self.any_packet(),
+            7 => self.empty_packet(),
+            8 => self.garbage(),
+            9 => self.event(LineEvent::Gap),
+            _ => self.gap_then_resend(),
+        }
+    }
+
+    // Decode data.
+
+    fn open_type(&mut self) -> u8 {
+        match self.hub.gathered() {
+            Some(message) => message.code_type,
+            None => self.dice.pick(&TYPES),
+        }
+    }
+
+    fn piece_size(&mut self) -> usize {
+        match self.dice.weigh(&[15, 20, 40, 15, 4, 3]) {
+            0 => 0,
+            1 => 1,
+            2 => self.dice.between(2, 8),
+            3 => self.dice.between(9, 40),
+            4 => self.dice.pick(&[249, 250, 250]),
+            _ => self.dice.between(0, 250),
+        }
+    }
+
+    fn piece_of(&mut self, code_type: u8, status: u8, size: usize) -> Vec<u8> {
+        let mut data = vec![code_type];
+        data.extend(contents(&mut self.dice, size));
+        lay_out(DECODE_DATA, READER, status, &data)
+    }
+
+    fn right_piece(&mut self) -> Vec<u8> {
+        let code_type = self.open_type();
+        let size = self.piece_size();
+        let status = self.dice.pick(&[0, 0, 0, 2, 2, 2, 2, 1, 3, 8, 10, 11]);
+        self.piece_of(code_type, status, size)
+    }
+
+    fn piece(&mut self) {
+        let packet = self.right_piece();
+        self.whole(packet);
+    }
+
+    /// Sends a whole packet and keeps it for later.
+    fn whole(&mut self, packet: Vec<u8>) {
+        self.send(&packet);
+        if self.kept.len() == KEPT {
+            let at = self.dice.below(KEPT);
+            self.kept.swap_remove(at);
+        }
+        self.kept.push(packet);
+        self.after_packet();
+    }
+
+    fn other_type(&mut self) {
+        if self.hub.gathered().is_none() {
+            // Opens a message first, at times with an empty piece.
+            let code_type = self.dice.pick(&TYPES);
+            let size = self.dice.pick(&[0, 0, 1, 5]);
+            let first = self.piece_of(code_type, MORE, size);
+            self.whole(first);
+        }
+        let code_type = self.open_type().wrapping_add(self.dice.pick(&[1, 255, 128]));
+        let size = self.dice.below(4);
+        let status = self.dice.pick(&[0, 1, 2, 3]);
+        let packet = self.piece_of(code_type, status, size);
+        self.whole(packet);
+    }
+
+    /// Pieces up to just under, at, or over the brim.
+    fn long_message(&mut self) {
+        if self.dice.chance(40) {
+            self.event(LineEvent::MessageGap);
+        } else {
+            self.event(LineEvent::Gap);
+        }
+        let code_type = self.open_type();
+        let target = self.dice.pick(&[
+            LONGEST_MESSAGE - 1,
+            LONGEST_MESSAGE,
+            LONGEST_MESSAGE,
+            LONGEST_MESSAGE,
+            LONGEST_MESSAGE + 1,
+            LONGEST_MESSAGE + 1,
+            LONGEST_MESSAGE + 200,
+        ]);
+        loop {
+            let have = self.hub.gathered().map_or(0, |message| message.bytes.len());
+            let left = target - have.min(target);
+            let size = if self.dice.chance(90) { left.min(250) } else { left.min(self.dice.below(251)) };
+            let last = size == left;
+            let status = if last { self.dice.pick(&[0, 0, 2, 2, 1, 3]) } else { self.dice.pick(&[2, 2, 2, 3]) };
+            let packet = self.piece_of(code_type, status, size);
+            self.send(&packet);
+            self.event(LineEvent::Gap);
+            if self.dice.chance(8) {
+                self.resend_last();
+                self.event(LineEvent::Gap);
+            }
+            if last || self.hub.barred() {
+                break;
+            }
+        }
+        if self.hub.gathered().is_some() {
+            self.at_the_brim(code_type);
+        }
+    }
+
+    fn at_the_brim(&mut self, code_type: u8) {
+        for _ in 0..self.dice.between(1, 3) {
+            let size = self.dice.pick(&[0, 0, 0, 1, 2, 250]);
+            let status = self.dice.pick(&[0, 2, 2, 3]);
+            let packet = self.piece_of(code_type, status, size);
+            self.send(&packet);
+            self.event(LineEvent::Gap);
+            if self.dice.chance(50) {
+                self.resend_last();
+            }
+        }
+    }
+
+    // Resends.
+
+    /// The last accepted packet again: mostly marked and equal, at times with something else changed.
+    fn resend_last(&mut self) {
+        let Some(body) = self.hub.last_accepted() else {
+            return self.resend_kept();
+        };
+        let body = body.to_vec();
+        let mut data = body[HEADER..].to_vec();
+        let mut status = body[3] | MARK;
+        match self.dice.weigh(&[70, 6, 6, 6, 6, 3, 3]) {
+            0 => {}
+            1 => status &= !MARK,
+            2 => status ^= MORE,
+            3 => status ^= PERMANENT,
+            4 => {
+                let at = self.dice.below(data.len());
+                data[at] ^= 1;
+            }
+            5 => {
+                data.pop();
+            }
+            _ => data.truncate(1),
+        }
+        let packet = lay_out(body[1], body[2], status, &data);
+        self.send(&packet);
+        self.after_packet();
+    }
+
+    /// Some earlier packet again.
+    fn resend_kept(&mut self) {
+        if self.kept.is_empty() {
+            return self.piece();
+        }
+        let at = self.dice.below(self.kept.len());
+        let old = self.kept[at].clone();
+        let mark = self.dice.pick(&[MARK, MARK, MARK, 0]);
+        let packet = lay_out(old[1], old[2], old[3] | mark, &old[HEADER..old.len() - CHECKSUM]);
+        self.send(&packet);
+        self.after_packet();
+    }
+
+    /// As a sender does it: a spoiled copy, then the marked one.
+    fn spoiled_then_resent(&mut self) {
+        let code_type = self.open_type();
+        let size = self.piece_size();
+        let status = self.dice.pick(&[0, 2]);
+        let packet = self.piece_of(code_type, status, size);
+        let spoiled =
+            if self.dice.chance(50) { damaged(&mut self.dice, &packet) } else { cut(&mut self.dice, &packet) };
+        self.send(&spoiled);
+        self.event(LineEvent::Gap);
+        let again = lay_out(packet[1], packet[2], packet[3] | MARK, &packet[HEADER..packet.len() - CHECKSUM]);
+        self.whole(again);
+    }
+
+    /// A message gap, then what was accepted before it, marked.
+    fn gap_then_resend(&mut self) {
+        let last = self.hub.last_accepted().map(<[u8]>::to_vec);
+        self.event(LineEvent::MessageGap);
+        if let Some(body) = last.filter(|_| self.dice.chance(50)) {
+            let packet = lay_out(body[1], body[2], body[3] | MARK, &body[HEADER..]);
+            self.send(&packet);
+            self.after_packet();
+        }
+    }
+
+    // Everything else.
+
+    /// Decode data without even a code type.
+    fn empty_packet(&mut self) {
+        let status = self.dice.pick(&[0, 1, 2]);
+        let packet = lay_out(DECODE_DATA, READER, status, &[]);
+        self.send(&packet);
+        self.after_packet();
+    }
+
+    fn damaged(&mut self) {
+        let packet = self.right_piece();
+        let packet = damaged(&mut self.dice, &packet);
+        self.send(&packet);
+        self.after_packet();
+    }
+
+    fn cut(&mut self) {
+        let packet = self.right_piece();
+        let packet = cut(&mut self.dice, &packet);
+        self.send(&packet);
+        self.after_packet();
+    }
+
+    fn answer(&mut self) {
+        let opcode = self.dice.pick(&[CMD_ACK, CMD_NAK]);
+        let source = self.dice.pick(&[READER, READER, READER, HOST, 1, 255]);
+        let status = self.dice.pick(&[0, 0, 0, 1, 2, 4, 8, 0x80, 255]);
+        let data = [1, 6, 0];
+        let size = self.dice.below(4);
+        let packet = lay_out(opcode, source, status, &data[..size]);
+        self.send(&packet);
+        self.after_packet();
+    }
+
+    /// A right checksum around any fields.
+    fn any_packet(&mut self) {
+        let near = [DECODE_DATA, DECODE_DATA, 0xF2, 0xF4, PARAM_SEND, PARAM_REQUEST, BEEP, 0xD2, 0xCF, 0xB1, 0xB4, 0];
+        let opcode = if self.dice.chance(80) { self.dice.pick(&near) } else { self.dice.byte() };
+        let source = self.dice.pick(&[0, 0, 0, 0, 4, 1, 2, 255]);
+        let status = self.dice.pick(&[0, 0, 1, 2, 3, 4, 8, 0x10, 0x20, 0x40, 0x80, 255]);
+        let size = self.dice.pick(&[0, 1, 2, 3, 7]);
+        let data = contents(&mut self.dice, size);
+        let packet = lay_out(opcode, source, status, &data);
+        self.send(&packet);
+        self.after_packet();
+    }
+}

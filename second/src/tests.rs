@@ -1,0 +1,539 @@
+//! The packets of document 01, of the listings page and of the sources, and the readings of the open points.
+
+use crate::framer::{Framed, Framer, LineEvent};
+use crate::listing::{output, Side};
+use crate::packet::*;
+use crate::table::{allowed, beep, Table, ROWS};
+
+/// Bytes from spaced digits.
+fn bytes(text: &str) -> Vec<u8> {
+    text.split_whitespace().map(|pair| u8::from_str_radix(pair, 16).expect("two digits")).collect()
+}
+
+/// The notation of a packet built here, with `.` after it.
+fn sent(opcode: u8, source: u8, status: u8, data: &[u8]) -> String {
+    let mut text = Vec::new();
+    crate::listing::push_bytes(&lay_out(opcode, source, status, data), &mut text);
+    String::from_utf8(text).expect("digits") + " . "
+}
+
+fn hub(input: &str) -> String {
+    String::from_utf8(output(Side::Hub, input.as_bytes())).expect("plain lines")
+}
+
+fn reader(input: &str) -> String {
+    String::from_utf8(output(Side::Reader, input.as_bytes())).expect("plain lines")
+}
+
+/// The lines that one more piece of input adds.
+fn reader_after(before: &str, input: &str) -> String {
+    let whole = reader(&format!("{before} {input}"));
+    whole.strip_prefix(&reader(before)).expect("streaming").to_string()
+}
+
+fn hub_after(before: &str, input: &str) -> String {
+    let whole = hub(&format!("{before} {input}"));
+    whole.strip_prefix(&hub(before)).expect("streaming").to_string()
+}
+
+const HUB_ACK: &str = "A 04 D0 04 00 FF 28\n";
+const HUB_NAK_1: &str = "A 05 D1 04 00 01 FF 25\n";
+const HUB_NAK_2: &str = "A 05 D1 04 00 02 FF 24\n";
+const HUB_NAK_6: &str = "A 05 D1 04 00 06 FF 20\n";
+const READER_ACK: &str = "A 04 D0 00 00 FF 2C\n";
+const READER_NAK_1: &str = "A 05 D1 00 00 01 FF 29\n";
+const READER_NAK_2: &str = "A 05 D1 00 00 02 FF 28\n";
+const READER_NAK_6: &str = "A 05 D1 00 00 06 FF 24\n";
+const QUIET: &str = "G 1 0 0 0\n";
+/// 9Fh off, and on again.
+const OFF: &str = "07 C6 04 00 FF 9F 00 FD 91 . ";
+const ON: &str = "07 C6 04 00 FF 9F 01 FD 90 . ";
+
+// The packet.
+
+#[test]
+fn cases_1_to_8_are_built_and_checked() {
+    let cases: [(&str, u8, u8, &[u8]); 9] = [
+        ("04 D0 04 00 FF 28", CMD_ACK, HOST, &[]),
+        ("04 D0 00 00 FF 2C", CMD_ACK, READER, &[]),
+        ("05 D1 04 00 01 FF 25", CMD_NAK, HOST, &[1]),
+        ("05 D1 00 00 06 FF 24", CMD_NAK, READER, &[6]),
+        ("06 F3 00 00 1B 38 FE B4", DECODE_DATA, READER, &[0x1B, 0x38]),
+        ("05 F3 00 00 1B FE ED", DECODE_DATA, READER, &[0x1B]),
+        ("07 C6 04 00 FF 8A 08 FD 9E", PARAM_SEND, HOST, &[0xFF, 0x8A, 8]),
+        ("05 C7 04 00 8A FE A6", PARAM_REQUEST, HOST, &[0x8A]),
+        ("07 C6 00 00 FF 8A 08 FD A2", PARAM_SEND, READER, &[0xFF, 0x8A, 8]),
+    ];
+    for (text, opcode, source, data) in cases {
+        assert_eq!(written(opcode, source, 0, data), bytes(text));
+        let packet = check(&bytes(text)).expect(text);
+        assert_eq!((packet.opcode(), packet.source(), packet.status()), (opcode, source, 0));
+        assert_eq!(packet.data(), data);
+    }
+}
+
+#[test]
+fn packets_of_the_sources_pass_the_check() {
+    let whole = [
+        "05 C7 04 00 FE FE 32",
+        "0D C6 00 00 FF 01 00 02 01 9C 07 E6 63 FC 3E",
+        "06 C7 04 00 01 9C FE 92",
+        "09 C6 00 00 FF 01 00 9C 07 FD 8E",
+        "07 C7 04 00 FE 01 9C FD 93",
+        "07 C7 04 00 01 9C FE FD 93",
+        "05 C7 04 00 04 FF 2C",
+        "05 C6 00 00 FF FE 36",
+        "07 C7 04 00 FE FE FE FC 34",
+        "07 C7 04 00 01 01 01 FF 2B",
+        "0B C6 00 00 FF 01 00 01 00 01 00 FE 2D",
+        "1D C6 00 00 FF F7 F1 15 12 00 00 44 53 34 33 30 38 2D 53 52 30 30 30 30 37 5A 5A 57 57 F7 7E",
+        "06 C7 04 80 F0 3E FD 81",
+        "0A C6 00 00 FF F4 F0 3E 04 FF FB 0C",
+        "07 C7 04 80 F8 04 5E FD 54",
+        "0B C6 00 00 FF F4 F8 04 5E 00 00 FB E2",
+        "14 F3 00 00 99 1A 02 00 00 03 41 42 43 00 00 04 44 45 46 47 FC 61",
+    ];
+    for text in whole {
+        let all = bytes(text);
+        let packet = check(&all).expect(text);
+        assert_eq!(packet.bytes(), all);
+        let again = lay_out(packet.opcode(), packet.source(), packet.status(), packet.data());
+        assert_eq!(again, all);
+    }
+    assert_eq!(check(&bytes("06 C7 04 80 F1 15 FD")), Err(Refusal::Cut));
+}
+
+#[test]
+fn the_check_reads_only_the_front() {
+    assert_eq!(check(&[]), Err(Refusal::Cut));
+    assert_eq!(check(&[3]), Err(Refusal::Length));
+    assert_eq!(check(&[4]), Err(Refusal::Cut));
+    assert_eq!(check(&bytes("04 D0 04 00 FF")), Err(Refusal::Cut));
+    assert_eq!(check(&bytes("04 D0 04 00 FF 29")), Err(Refusal::Checksum));
+    let long = bytes("04 D0 04 00 FF 28 03 03");
+    assert_eq!(check(&long).expect("whole").bytes(), &long[..6]);
+}
+
+#[test]
+fn build_refuses_in_its_order() {
+    let mut room = [9; 257];
+    let big = [0; 252];
+    assert_eq!(build(&mut room[..256], 0, 1, 0xFF, &big), Err(Refusal::Room));
+    assert_eq!(build(&mut room, 0, 1, 0xFF, &big), Err(Refusal::Source));
+    assert_eq!(build(&mut room, 0, HOST, MORE, &big), Err(Refusal::Status));
+    assert_eq!(build(&mut room, 0, HOST, 4, &big), Err(Refusal::Status));
+    assert_eq!(build(&mut room, 0, HOST, MARK | PERMANENT, &big), Err(Refusal::DataLength));
+    assert_eq!(room, [9; 257]);
+    assert_eq!(build(&mut room, DECODE_DATA, READER, MORE, &big[..251]), Ok(257));
+    assert_eq!(build(&mut room, 0, HOST, 0, &[]), Ok(6));
+}
+
+#[test]
+fn the_framer_goes_deaf_after_1_and_2() {
+    let mut framer = Framer::default();
+    let mut feed = |text: &str| -> Vec<Framed> {
+        let events = text.split_whitespace().map(|word| match word {
+            "." => LineEvent::Gap,
+            "/" => LineEvent::MessageGap,
+            _ => LineEvent::Byte(u8::from_str_radix(word, 16).expect("a pair")),
+        });
+        events.map(|event| framer.take(event)).filter(|framed| *framed != Framed::Nothing).collect()
+    };
+    assert_eq!(feed("03"), [Framed::Refused(Refusal::Length)]);
+    assert_eq!(feed("04 D0 04 00 FF 28 03 . . /"), []);
+    assert_eq!(feed("04 D0 04 00 FF 29"), [Framed::Refused(Refusal::Checksum)]);
+    assert_eq!(feed("04 D0 04 00 FF 28 /"), []);
+    assert_eq!(feed("04 D0 ."), [Framed::Refused(Refusal::Cut)]);
+    let ack = Framed::Packet(check(&bytes("04 D0 04 00 FF 28")).expect("an ACK"));
+    assert_eq!(feed("04 D0 04 00 FF 28 04 D0 04 00 FF 28"), [ack.clone(), ack]);
+}
+
+// The hub.
+
+#[test]
+fn the_hub_listing_of_document_01() {
+    let input = "06 F3 00 00 1B 38 FE B4 . 06 F3 00 01 1B 38 FE B3 .";
+    let lines = "M 1B 38\nA 04 D0 04 00 FF 28\nA 04 D0 04 00 FF 28\n";
+    assert_eq!(hub(input), lines);
+    assert_eq!(hub(&input.to_lowercase().replace(' ', "")), lines);
+}
+
+#[test]
+fn the_hub_refuses_1_to_7() {
+    assert_eq!(hub("03 04 D0 . 06 F3 . 06 F3 00 00 1B 38 FE B5"), HUB_NAK_1.repeat(3));
+    for (opcode, source, status, data) in [
+        (DECODE_DATA, HOST, 0, &[0x1B][..]),
+        (DECODE_DATA, READER, 4, &[0x1B]),
+        (PARAM_SEND, READER, MORE, &[0xFF]),
+        (PARAM_SEND, READER, 0, &[0xFF]),
+        (DECODE_DATA, READER, 0, &[]),
+    ] {
+        assert_eq!(hub(&sent(opcode, source, status, data)), HUB_NAK_2);
+    }
+    assert_eq!(
+        hub("14 F3 00 00 99 1A 02 00 00 03 41 42 43 00 00 04 44 45 46 47 FC 61"),
+        format!("M 99 1A 02 00 00 03 41 42 43 00 00 04 44 45 46 47\n{HUB_ACK}")
+    );
+    assert_eq!(hub("05 F3 00 00 1B FE ED"), format!("M 1B\n{HUB_ACK}"));
+}
+
+#[test]
+fn the_hub_ignores_answers_right_or_wrong() {
+    let odd = [sent(CMD_ACK, READER, 0, &[]), sent(CMD_ACK, HOST, 0xFF, &[1, 2]), sent(CMD_NAK, 9, 2, &[])];
+    assert_eq!(hub(&odd.concat()), "");
+    // They don't count as the last accepted packet either.
+    let piece = "06 F3 00 00 1B 38 FE B4 . ";
+    let again = "06 F3 00 01 1B 38 FE B3 . ";
+    assert_eq!(hub_after(&(piece.to_string() + &odd.concat()), again), HUB_ACK);
+}
+
+#[test]
+fn another_type_bars_the_hub_until_a_message_gap() {
+    let first = sent(DECODE_DATA, READER, MORE, &[0x1B]);
+    let other = sent(DECODE_DATA, READER, 0, &[0x1C, 1]);
+    let again = sent(DECODE_DATA, READER, MORE | MARK, &[0x1B]);
+    let opener = first.clone() + &other;
+    assert_eq!(hub(&opener), format!("{HUB_ACK}{HUB_NAK_6}"));
+    assert_eq!(hub_after(&opener, &other), HUB_NAK_6);
+    assert_eq!(hub_after(&opener, &again), HUB_NAK_6);
+    assert_eq!(hub_after(&opener, &sent(CMD_ACK, READER, 0, &[])), "");
+    assert_eq!(hub_after(&opener, &sent(DECODE_DATA, READER, 0, &[])), HUB_NAK_2);
+    assert_eq!(hub_after(&opener, &format!(". . {other}")), HUB_NAK_6);
+    assert_eq!(hub_after(&opener, &format!("/ {other}")), format!("M 1C 01\n{HUB_ACK}"));
+    assert_eq!(hub_after(&opener, "03"), HUB_NAK_1);
+    assert_eq!(hub_after(&format!("{opener} 03"), &format!("/ {other}")), format!("M 1C 01\n{HUB_ACK}"));
+    assert_eq!(hub_after(&format!("{opener} 06 F3"), "/"), HUB_NAK_1);
+}
+
+#[test]
+fn a_total_of_4096_passes_and_one_more_bars() {
+    let mut long = String::new();
+    for i in 0..16u8 {
+        long += &sent(DECODE_DATA, READER, MORE, &[&[0x1B][..], &[i; 250]].concat());
+    }
+    let last = |n: usize| sent(DECODE_DATA, READER, 0, &[&[0x1B][..], &vec![7; n]].concat());
+    let ended = hub_after(&long, &last(96));
+    assert!(ended.starts_with("M 1B 00 00") && ended.ends_with(&format!(" 07\n{HUB_ACK}")));
+    assert_eq!(ended.len(), 1 + 3 * 4_097 + 1 + HUB_ACK.len());
+    assert_eq!(hub_after(&long, &last(97)), HUB_NAK_6);
+    assert_eq!(hub_after(&(long + &last(97)), &last(0)), HUB_NAK_6);
+}
+
+#[test]
+fn a_message_gap_forgets_the_last_accepted_packet() {
+    let piece = "06 F3 00 00 1B 38 FE B4 . ";
+    let again = "06 F3 00 01 1B 38 FE B3 . ";
+    assert_eq!(hub_after(piece, again), HUB_ACK);
+    assert_eq!(hub_after(&(piece.to_string() + "/"), again), format!("M 1B 38\n{HUB_ACK}"));
+    // A marked packet whose first copy was lost is a new one, an unmarked equal too.
+    assert_eq!(hub(again), format!("M 1B 38\n{HUB_ACK}"));
+    assert_eq!(hub_after(piece, piece), format!("M 1B 38\n{HUB_ACK}"));
+    // Bit 3 counts in the equality, a refusal between doesn't matter.
+    assert_eq!(hub_after(piece, &sent(DECODE_DATA, READER, 9, &[0x1B, 0x38])), format!("M 1B 38\n{HUB_ACK}"));
+    assert_eq!(hub_after(&(piece.to_string() + "03 . "), again), HUB_ACK);
+}
+
+// The reader's commands.
+
+#[test]
+fn the_first_example_of_the_listings_page() {
+    let input = "05 E6 04 00 01 FF 10 .  07 C6 04 00 FF 8A 08 FD 9E .  05 C7 04 00 8A FE A6 .";
+    let lines = "B 0 0 2\nG 1 0 0 0\nA 04 D0 00 00 FF 2C\nG 1 0 0 0\nA 04 D0 00 00 FF 2C\n\
+                 G 1 0 0 0\nA 07 C6 00 00 FF 8A 08 FD A2\n";
+    assert_eq!(reader(input), lines);
+}
+
+#[test]
+fn requests_of_the_sources() {
+    let all = "A 17 C6 00 00 FF 80 00 89 0A 8A 00 9B 14 9C 06 9E 04 9F 01 ED 00 EE 01 F8 18\n";
+    let none = "A 05 C6 00 00 FF FE 36\n";
+    for (request, answer) in [
+        ("05 C7 04 00 FE FE 32", all),
+        ("06 C7 04 00 01 9C FE 92", "A 07 C6 00 00 FF 9C 06 FD 92\n"),
+        ("07 C7 04 00 FE 01 9C FD 93", all),
+        ("07 C7 04 00 01 9C FE FD 93", all),
+        ("05 C7 04 00 04 FF 2C", none),
+        ("07 C7 04 00 FE FE FE FC 34", all),
+        ("07 C7 04 00 01 01 01 FF 2B", none),
+    ] {
+        assert_eq!(reader(request), format!("{QUIET}{answer}"));
+    }
+    let set = sent(PARAM_SEND, HOST, 0, &[0xFF, 0x9C, 7]);
+    assert_eq!(reader_after(&set, "06 C7 04 00 01 9C FE 92"), format!("{QUIET}A 07 C6 00 00 FF 9C 07 FD 91\n"));
+    assert_eq!(reader("06 C7 04 80 F1 15 FD ."), format!("R 3\n{READER_NAK_1}"));
+    assert_eq!(reader("06 C7 04 80 F0 3E FD 81"), format!("R 5\n{READER_NAK_2}"));
+    assert_eq!(reader("07 C7 04 80 F8 04 5E FD 54"), format!("R 5\n{READER_NAK_2}"));
+    let reply = "0D C6 00 00 FF 01 00 02 01 9C 07 E6 63 FC 3E";
+    assert_eq!(reader(reply), format!("R 4\n{READER_NAK_2}"));
+    assert_eq!(hub(reply), HUB_NAK_2);
+}
+
+#[test]
+fn the_reader_refuses_in_rising_order() {
+    for (number, opcode, source, status, data) in [
+        (4, PARAM_SEND, READER, 0xFF, &[][..]),
+        (5, 0x00, HOST, 4, &[]),
+        (5, 0x00, HOST, MORE, &[]),
+        (5, BEEP, HOST, MORE, &[]),
+        (6, DECODE_DATA, HOST, MORE, &[]),
+        (6, 0xF0, HOST, 0, &[]),
+        (7, PARAM_SEND, HOST, 0, &[]),
+        (7, PARAM_SEND, HOST, 0, &[0x1B, 0x80]),
+        (7, PARAM_REQUEST, HOST, 0, &[]),
+        (7, BEEP, HOST, 0, &[0x1B, 0]),
+        (7, START_SESSION, HOST, 0, &[0]),
+    ] {
+        assert_eq!(reader(&sent(opcode, source, status, data)), format!("R {number}\n{READER_NAK_2}"));
+    }
+    for (number, opcode, data) in [
+        (8, BEEP, &[0x1B][..]),
+        (8, BEEP, &[0xFF]),
+        (8, PARAM_SEND, &[0x1B, 0x80, 2]),
+        (9, PARAM_SEND, &[0x00, 0x80, 2]),
+        (9, PARAM_SEND, &[0xFF, 0x81, 0]),
+        (9, PARAM_SEND, &[0xFF, 0x8A, 1]),
+        (9, PARAM_SEND, &[0xFF, 0x80, 2, 0x80, 1]),
+    ] {
+        assert_eq!(reader(&sent(opcode, HOST, 0, data)), format!("R {number}\n{READER_NAK_6}"));
+    }
+}
+
+#[test]
+fn every_range_has_its_ends() {
+    for [number, low, high, default] in ROWS {
+        assert!(allowed(number, low) && allowed(number, high) && allowed(number, default));
+        assert!(!allowed(number, high + 1));
+        assert!(low == 0 || !allowed(number, low - 1));
+    }
+    let triggers: Vec<u8> = (0..=255).filter(|value| allowed(0x8A, *value)).collect();
+    assert_eq!(triggers, [0, 2, 4, 7, 8]);
+    assert_eq!((0..=255u8).filter(|number| allowed(*number, 1)).count(), 8);
+    assert_eq!(Table::house_defaults().present, [0, 10, 0, 20, 6, 4, 1, 0, 1]);
+}
+
+#[test]
+fn beeps_end_at_1ah() {
+    assert_eq!(beep(0x00), Some([0, 0, 1]));
+    assert_eq!(beep(0x13), Some([1, 1, 5]));
+    assert_eq!(beep(0x1A), Some([1, 7, 4]));
+    assert_eq!(beep(0x1B), None);
+    assert_eq!(reader("05 E6 04 00 1A FE F7"), format!("B 1 7 4\n{QUIET}{READER_ACK}"));
+    assert_eq!(reader("05 E6 04 00 1B FE F6"), format!("R 8\n{READER_NAK_6}"));
+    assert_eq!(reader("05 E6 04 00 1C FE F5"), format!("R 8\n{READER_NAK_6}"));
+    let with_beep = sent(PARAM_SEND, HOST, 0, &[0x16]);
+    assert_eq!(reader(&with_beep), format!("B 4 3 2\n{QUIET}{READER_ACK}"));
+}
+
+#[test]
+fn switches() {
+    let steps = [
+        ("04 E4 04 00 FF 14", "G 1 1 0 0\n"),
+        ("04 C5 04 00 FF 33", "G 1 1 1 0\n"),
+        ("05 E7 04 00 01 FF 0F", "G 1 1 1 1\n"),
+        ("04 E9 04 00 FF 0F", "G 1 1 1 1\n"),
+        ("04 EA 04 00 FF 0E", "G 0 0 1 1\n"),
+        ("04 E4 04 00 FF 14", "G 0 0 1 1\n"),
+        ("04 E9 04 00 FF 0F", "G 1 0 1 1\n"),
+        ("04 E4 04 00 FF 14", "G 1 1 1 1\n"),
+        ("04 E5 04 00 FF 13", "G 1 0 1 1\n"),
+        ("05 E8 04 00 02 FF 0D", "G 1 0 1 1\n"),
+        ("05 E8 04 00 01 FF 0E", "G 1 0 1 0\n"),
+        ("05 E7 04 00 FE FE 12", "G 1 0 1 0\n"),
+        ("04 C4 04 00 FF 34", "G 1 0 0 0\n"),
+        ("04 C8 04 00 FF 30", "G 1 0 0 0\n"),
+    ];
+    let mut before = String::new();
+    for (packet, line) in steps {
+        assert_eq!(reader_after(&before, packet), format!("{line}{READER_ACK}"));
+        before += packet;
+    }
+    let on = "04 EA 04 00 FF 0E 04 C5 04 00 FF 33 05 E7 04 00 01 FF 0F P";
+    assert_eq!(reader_after(on, "04 E9 04 00 FF 0F"), format!("{QUIET}{READER_ACK}"));
+}
+
+#[test]
+fn present_and_permanent_values() {
+    let ask = "05 C7 04 00 89 FE A7 . ";
+    let value = |v: u8| format!("{QUIET}A{}\n", sent(PARAM_SEND, READER, 0, &[0xFF, 0x89, v]).trim_end_matches(" . "));
+    let for_now = sent(PARAM_SEND, HOST, 0, &[0xFF, 0x89, 5, 0x89, 7]);
+    let for_ever = sent(PARAM_SEND, HOST, PERMANENT, &[0xFF, 0x89, 9]);
+    let bad = sent(PARAM_SEND, HOST, 0, &[0xFF, 0x89, 1, 0x80, 2]);
+    assert_eq!(reader_after(&for_now, ask), value(7));
+    assert_eq!(reader_after(&(for_now.clone() + "P"), ask), value(10));
+    assert_eq!(reader_after(&(for_ever.clone() + &for_now), ask), value(7));
+    assert_eq!(reader_after(&(for_ever.clone() + &for_now + "P"), ask), value(9));
+    assert_eq!(reader_after(&(for_ever.clone() + &bad), ask), value(9));
+    assert_eq!(reader_after(&(for_ever + "04 C8 04 00 FF 30 P"), ask), value(10));
+}
+
+#[test]
+fn without_handshaking_only_requests_are_answered() {
+    assert_eq!(reader(OFF), format!("{QUIET}{READER_ACK}"));
+    assert_eq!(reader_after(OFF, ON), QUIET);
+    assert_eq!(reader_after(OFF, "05 C7 04 00 9F FE 91"), format!("{QUIET}A 07 C6 00 00 FF 9F 00 FD 95\n"));
+    assert_eq!(reader_after(OFF, "03 . 04 FF . 04 C8 00 00 FF 34 05 E6 04 00 1B FE F6"), "R 1\nR 3\nR 4\nR 8\n");
+    assert_eq!(reader_after(&format!("{OFF} {ON}"), "03"), format!("R 1\n{READER_NAK_1}"));
+}
+
+#[test]
+fn resent_equals_get_the_same_answer() {
+    let off_again = sent(PARAM_SEND, HOST, MARK, &[0xFF, 0x9F, 0]);
+    let on_again = sent(PARAM_SEND, HOST, MARK, &[0xFF, 0x9F, 1]);
+    // The packet that turned 9Fh off was answered, the one that turned it on was not.
+    assert_eq!(reader_after(OFF, &off_again), READER_ACK);
+    assert_eq!(reader_after(&format!("{OFF} {off_again}"), &off_again), READER_ACK);
+    assert_eq!(reader_after(&format!("{OFF} {ON}"), &on_again), "");
+    // A marked one that is not equal is acted on, also after a power-up.
+    assert_eq!(reader_after(OFF, &on_again), QUIET);
+    assert_eq!(reader_after(&format!("{OFF} P"), &off_again), format!("{QUIET}{READER_ACK}"));
+    // No beep the second time; refusals and answers between don't matter.
+    let beep = sent(BEEP, HOST, 0, &[1]);
+    let again = sent(BEEP, HOST, MARK, &[1]);
+    assert_eq!(reader_after(&beep, &again), READER_ACK);
+    assert_eq!(reader_after(&format!("{beep} 03 . 04 D0 04 00 FF 28"), &again), READER_ACK);
+    assert_eq!(reader_after(&beep, &beep), format!("B 0 0 2\n{QUIET}{READER_ACK}"));
+    assert_eq!(reader_after(&beep, &sent(BEEP, HOST, MARK | PERMANENT, &[1])), format!("B 0 0 2\n{QUIET}{READER_ACK}"));
+}
+
+// The sender.
+
+#[test]
+fn the_second_example_of_the_listings_page() {
+    let lines = "C 06 F3 00 00 1B 38 FE B4\nC 06 F3 00 01 1B 38 FE B3\nD 1\n";
+    assert_eq!(reader("S 1B 38 ; T 04 D0 04 00 FF 28 ."), lines);
+}
+
+/// `S` for a message of `n` equal bytes.
+fn start(n: usize) -> String {
+    format!("S 1B {} ; ", "38 ".repeat(n))
+}
+
+#[test]
+fn pieces_hold_250_bytes() {
+    let ack = "04 D0 04 00 FF 28 . ";
+    for (size, pieces, last) in [(0, 1, 0), (250, 1, 250), (251, 2, 1), (500, 2, 250), (4_096, 17, 96)] {
+        let lines = reader(&(start(size) + &ack.repeat(pieces)));
+        let lines: Vec<&str> = lines.lines().collect();
+        assert_eq!(lines.len(), pieces + 1);
+        assert_eq!(lines[pieces], "D 0");
+        assert_eq!(lines[pieces - 1].len(), 1 + 3 * (last + 7));
+        assert!(lines[..pieces - 1].iter().all(|line| line.starts_with("C FF F3 00 02 1B 38")));
+    }
+    assert_eq!(reader(&start(4_097)), "R 11\n");
+    assert_eq!(reader(&start(9_000)), "R 11\n");
+    assert_eq!(reader_after(&start(1), &start(0)), "R 11\n");
+}
+
+#[test]
+fn the_sender_gives_up_after_three_copies_of_one_packet() {
+    let nak_1 = "05 D1 04 00 01 FF 25 . ";
+    let again = "C 06 F3 00 01 1B 38 FE B3\n";
+    assert_eq!(reader_after(&start(1), &format!("T {nak_1} T T {nak_1}")), format!("{again}{again}F 2\n"));
+    assert_eq!(reader_after(&start(1), "05 D1 04 00 02 FF 24"), "F 0\n");
+    assert_eq!(reader_after(&start(1), "T 05 D1 04 01 0A FF 1B"), format!("{again}F 1\n"));
+    // Two resends of each packet: the count is the message's.
+    let both = reader(&(start(251) + "T T 04 D0 04 00 FF 28 T T T"));
+    assert!(both.ends_with("F 4\n"));
+    assert_eq!(both.lines().count(), 7);
+}
+
+#[test]
+fn the_sender_heeds_only_right_answers() {
+    for odd in [
+        sent(CMD_ACK, READER, 0, &[]),
+        sent(CMD_ACK, HOST, PERMANENT, &[]),
+        sent(CMD_ACK, HOST, 0, &[0]),
+        sent(CMD_NAK, HOST, 0, &[]),
+        sent(CMD_NAK, HOST, 0, &[1, 1]),
+        sent(CMD_NAK, HOST, MORE, &[1]),
+        sent(CMD_NAK, 1, 0, &[6]),
+    ] {
+        assert_eq!(reader_after(&start(1), &odd), "");
+    }
+    assert_eq!(reader_after(&start(1), &sent(CMD_ACK, HOST, MARK, &[])), "D 0\n");
+    assert_eq!(reader("T 04 D0 04 00 FF 28 05 D1 04 00 01 FF 25 05 D1 04 00 06 FF 20"), "");
+    assert_eq!(reader_after(&(start(1) + "P"), "T 04 D0 04 00 FF 28"), "");
+}
+
+#[test]
+fn a_waiting_reader_is_silent_for_1_to_3_only() {
+    let refused = reader_after(&start(1), "03 . 04 D0 04 00 FF 29 . 04 . 04 C8 00 00 FF 34 05 E6 04 00 1B FE F6");
+    assert_eq!(refused, format!("R 1\nR 2\nR 3\nR 4\n{READER_NAK_2}R 8\n{READER_NAK_6}"));
+    assert_eq!(reader_after(&(start(1) + "04 D0 04 00 FF 28"), "03"), format!("R 1\n{READER_NAK_1}"));
+    assert_eq!(reader_after(&start(1), "04 C8 04 00 FF 30"), format!("{QUIET}{READER_ACK}"));
+}
+
+#[test]
+fn power_up_clears_the_framer() {
+    assert_eq!(reader("03 P 03"), format!("R 1\n{READER_NAK_1}").repeat(2));
+    assert_eq!(reader("04 C8 P 04 C8 04 00 FF 30 ."), format!("{QUIET}{READER_ACK}"));
+}
+
+// The notation.
+
+#[test]
+fn wrong_characters_stop_the_program() {
+    for wrong in ["\t", "x", "g", "T", "P", "S", ";", "0", "0 ", "0.", "0 4", "\0", "R", ","] {
+        assert_eq!(hub(&format!("03 . {wrong}")), format!("{HUB_NAK_1}E\n"), "{wrong:?}");
+    }
+    for wrong in
+        ["\t", "t", "s", "p", ";", "S ;", "S 1B .", "S 1B /", "S 1B T", "S S", "S 1B 3 ;", "S 1 B ;", "S 1B 3", "0T"]
+    {
+        assert_eq!(reader(&format!("03 . {wrong}")), format!("R 1\n{READER_NAK_1}E\n"), "{wrong:?}");
+    }
+    assert_eq!(hub("0"), "E\n");
+    assert_eq!(hub("03 x 03 . 03"), format!("{HUB_NAK_1}E\n"));
+    assert_eq!(reader("S 1B 38"), "");
+    assert_eq!(reader("S"), "");
+    assert_eq!(hub(""), "");
+    assert_eq!(hub("\r\n \n0\n"), "E\n");
+    assert_eq!(reader("S\r\n1b38\n;T"), "C 06 F3 00 00 1B 38 FE B4\nC 06 F3 00 01 1B 38 FE B3\n");
+}
+
+// The tools.
+
+#[test]
+fn the_program_streams() {
+    let stream = crate::streams::stream(Side::Reader, 3, 2_000).text;
+    let mut listing = crate::listing::Listing::new(Side::Reader);
+    let mut lines = Vec::new();
+    stream.chunks(1).for_each(|character| listing.feed(character, &mut lines));
+    listing.finish(&mut lines);
+    assert_eq!(lines, output(Side::Reader, &stream));
+    let mut written = Vec::new();
+    crate::listing::run(Side::Reader, &stream[..], &mut written).expect("no trouble with bytes in memory");
+    assert_eq!(written, lines);
+}
+
+#[test]
+fn a_stream_follows_from_its_seed() {
+    for side in [Side::Hub, Side::Reader] {
+        let stream = crate::streams::stream(side, 7, 1_000);
+        assert_eq!(stream.text, crate::streams::stream(side, 7, 1_000).text);
+        assert_ne!(stream.text, crate::streams::stream(side, 8, 1_000).text);
+        assert!(stream.events >= 1_000);
+        assert!(!output(side, &stream.text).is_empty());
+    }
+}
+
+#[test]
+fn a_difference_is_shrunk() {
+    let text = b"03 . 06F3 00 . 04 D0 P 05 / 07 . S 1B 38 ; T 99 . 08";
+    let small = crate::shrink::shrink(text, &mut |text| {
+        let text = String::from_utf8_lossy(text);
+        text.contains("F3") && text.find("P").is_some_and(|at| text[at..].contains("38"))
+    });
+    assert_eq!(small, b"F3 P 38");
+}
+
+#[test]
+fn cases_9_and_10_as_the_line_expects_them() {
+    for (size, count, last) in [(0, 1, 0), (250, 1, 250), (251, 2, 1), (500, 2, 250), (4_096, 17, 96)] {
+        let message = crate::hub::Message { code_type: 0x1B, bytes: vec![7; size] };
+        let packets = crate::line::packets_of(&message);
+        assert_eq!(packets.len(), count);
+        assert_eq!(packets[count - 1].len(), HEADER + 1 + last + CHECKSUM);
+        assert!(packets[..count - 1].iter().all(|packet| packet[3] == MORE && packet.len() == LONGEST));
+        assert_eq!(packets[count - 1][3], 0);
+    }
+}
