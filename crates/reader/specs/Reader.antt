@@ -1,0 +1,121 @@
+-- Document 01, the reader's whole end: framer, command side and sender.
+use Prim.Native.Nat.{ℕ}
+use mathlib.Core.Bool.{Bool, true, false}
+use mathlib.Core.List.{List, [], _∷_, _++_, map}
+use lib.Dec.{eqb}
+use lib.ListN.{getD}
+use Rattle.words.specs.Lists.{pick}
+use Rattle.words.specs.Machine.{Done}
+use Rattle.packet.specs.Opcodes.{host, reader, paramSend, paramRequest}
+use Rattle.packet.specs.Packet.{bodyOf, seal, dataIn, statusAllowed, replyBody, unmarked, resentEqual, isAnswer}
+use Rattle.packet.specs.Refusals.{causeOf}
+use Rattle.packet.specs.declared.Refusal.{Refusal}
+use Rattle.packet.specs.declared.Refusal.the-variants.{Source, Status, Opcode, Data}
+use Rattle.packet.specs.declared.Reply.the-variants.{Ack, Nak}
+use Rattle.framer.specs.Framer.{Line, hearing, Heard, packet, refused as noPacket}
+use Rattle.framer.specs.Behind.{Behind, framed}
+use Rattle.framer.specs.declared.Event.{Event}
+use Rattle.sender.specs.Sender.{SenderState, nothingOut, waits, Sent, startStep, senderStep, heedOf}
+use Rattle.sender.specs.declared.Heard.the-variants.{TimeOut}
+use Rattle.table.specs.Table.{Values, powerUp, valueOf, answerData}
+use Rattle.reader.specs.Commands.{DeviceState, fresh, isKnown, lengthAllowed, Acted, denied, acted, command}
+
+-- The device, the last accepted packet's body without its mark (no bytes: none) with the answer it had, and the sender.
+pub record CoreState : Type 0 where
+  pub device : DeviceState
+  pub last : List ℕ
+  pub lastAnswer : List ℕ
+  pub sender : SenderState
+
+abbrev pub ReaderState : Type 0
+ReaderState = Behind CoreState
+
+-- What happens, in the order of happening.
+pub data Output : Type 0 where
+  refused : Refusal → Output
+  repeated : Output
+  beeped : List ℕ → Output
+  switched : DeviceState → Output
+  answered : List ℕ → Output
+  sent : Sent → Output
+
+-- An answer of no bytes does not go out.
+unfoldable pub answering : List ℕ → List Output
+answering [] = []
+answering (b ∷ bs) = answered (b ∷ bs) ∷ []
+
+-- ACK and NAK go out only if 9Fh was 1 before the packet.
+unfoldable pub handshake : DeviceState → Bool
+handshake d = eqb (valueOf (d .values) 0x9F) 1
+
+unfoldable pub ackBytes : DeviceState → List ℕ
+ackBytes d = pick (handshake d) (seal (replyBody reader Ack)) []
+
+unfoldable pub nakBytes : DeviceState → Refusal → List ℕ
+nakBytes d r = pick (handshake d) (seal (replyBody reader (Nak (causeOf r)))) []
+
+abbrev pub refuses : CoreState → Refusal → Done CoreState Output
+refuses c r = record { next = c; told = refused r ∷ answering (nakBytes (c .device) r) }
+
+-- A reader whose sender waits for an answer sends nothing for refusals 1 to 3.
+unfoldable pub noPacketStep : CoreState → Refusal → Done CoreState Output
+noPacketStep c r = pick (waits (c .sender)) (record { next = c; told = refused r ∷ [] }) (refuses c r)
+
+-- PARAM_REQUEST is answered by a PARAM_SEND, in any case; the others by ACK.
+unfoldable pub answerTo : DeviceState → ℕ → List ℕ → List ℕ
+answerTo d opcode carried = pick (eqb opcode paramRequest) (seal (bodyOf paramSend reader 0 (answerData (d .values) carried))) (ackBytes d)
+
+-- Acted on: the packet is now the last accepted one.
+unfoldable pub acts : CoreState → List ℕ → Acted → Done CoreState Output
+acts c body (denied r) = refuses c r
+acts c body (acted d rows) =
+    record {
+      next = record { device = d; last = unmarked body; lastAnswer = answerTo (c .device) (getD body 1 0) (dataIn body); sender = c .sender };
+      told = map beeped rows ++ (switched d ∷ answering (answerTo (c .device) (getD body 1 0) (dataIn body)));
+    }
+
+-- A packet with the resend mark, equal to the last accepted one apart from that mark, is answered with the same bytes and not acted on.
+unfoldable pub commandStep : CoreState → List ℕ → Done CoreState Output
+commandStep c body =
+    pick (resentEqual (c .last) body) (record { next = c; told = repeated ∷ answering (c .lastAnswer) })
+    (acts c body (command (c .device) (getD body 1 0) (getD body 3 0) (dataIn body)))
+
+-- 4 to 7 in rising order, then the command.
+unfoldable pub judgedStep : CoreState → List ℕ → Done CoreState Output
+judgedStep c body =
+    pick (eqb (getD body 2 0) host)
+    (pick (statusAllowed (getD body 1 0) (getD body 3 0))
+    (pick (isKnown (getD body 1 0)) (pick (lengthAllowed (getD body 1 0) (dataIn body)) (commandStep c body) (refuses c Data)) (refuses c Opcode))
+    (refuses c Status))
+    (refuses c Source)
+
+-- CMD_ACK and CMD_NAK go to the sender and are never refused.
+unfoldable pub senderHears : CoreState → Done SenderState Sent → Done CoreState Output
+senderHears c d = record { next = record { device = c .device; last = c .last; lastAnswer = c .lastAnswer; sender = d .next }; told = map sent (d .told) }
+
+unfoldable pub packetStep : CoreState → List ℕ → Done CoreState Output
+packetStep c body =
+    pick (isAnswer (getD body 1 0))
+    (senderHears c (senderStep (c .sender) (heedOf (getD body 1 0) (getD body 2 0) (getD body 3 0) (dataIn body))))
+    (judgedStep c body)
+
+unfoldable pub heardStep : CoreState → Heard → Done CoreState Output
+heardStep c (packet body) = packetStep c body
+heardStep c (noPacket r) = noPacketStep c r
+
+unfoldable pub readerStep : ReaderState → Event → Done ReaderState Output
+readerStep r e = framed heardStep r e
+
+-- A start, a time-out, and power-up.
+unfoldable pub withCore : ReaderState → Done CoreState Output → Done ReaderState Output
+withCore r d = record { next = record { line = r .line; core = d .next }; told = d .told }
+
+unfoldable pub startMessage : ReaderState → ℕ → List ℕ → Done ReaderState Output
+startMessage r code m = withCore r (senderHears (r .core) (startStep (r .core .sender) code m))
+
+unfoldable pub timeOut : ReaderState → Done ReaderState Output
+timeOut r = withCore r (senderHears (r .core) (senderStep (r .core .sender) TimeOut))
+
+-- Power-up copies permanent to present, clears framer and sender and forgets the last accepted packet.
+unfoldable pub powerUpReader : ReaderState → ReaderState
+powerUpReader r = record { line = hearing []; core = record { device = fresh (powerUp (r .core .device .values)); last = []; lastAnswer = []; sender = nothingOut false } }
