@@ -9,6 +9,7 @@ use lib.ListN.{length, getD, take, drop, List·getD-append}
 use lib.Seq.{take-append-le}
 use Rattle.words.specs.Lists.{pick, Bytes, over}
 use Rattle.words.specs.Machine.{Done}
+use Rattle.words.proofs.Lists.{never}
 use Rattle.packet.specs.Packet.{bodyIn, headIn, checksumIn, checksumOf, checkOf}
 use Rattle.packet.specs.declared.Refusal.{Refusal}
 use Rattle.packet.specs.declared.Refusal.the-variants.{Length, Checksum, Cut}
@@ -60,10 +61,6 @@ brings l CharacterGap = brings-gap l CharacterGap
 brings l MessageGap = brings-gap l MessageGap
 
 -- ---- what was found is what was told
-
--- For a case that cannot be: two constructors that are equal give 0 ≡ 1.
-pub never : {A : Type 0} → _≡_ {A = ℕ} 0 1 → A
-never z = absurd (omega arith)
 
 pub told-nothing : {l : Line} {e : Event} {d : Done Line Heard} → Brings l e d → foundOf (d .told) ≡ Nothing → d .told ≡ []
 unfolding foundOf

@@ -16,7 +16,7 @@ use Rattle.packet.specs.declared.Refusal.{Refusal}
 use Rattle.packet.specs.declared.Refusal.the-variants.{Cut}
 use Rattle.packet.specs.declared.Checked.{Checked}
 use Rattle.packet.specs.declared.Checked.the-variants as checked
-use Rattle.packet.proofs.Theorems.{Body, sealed-check, sealed-body, few-cut, cut-short}
+use Rattle.packet.proofs.Theorems.{Body, sealed-check, sealed-body, few-cut, turned}
 use Rattle.packet.proofs.Writing.{length-seal}
 use Rattle.framer.specs.Framer.{Line, hearing, deaf, packet, judged, atGap, atByte, framerStep}
 use Rattle.framer.specs.Promises.{begunOf, lineOf, controlOf, storedOf, framedOf, lineAfter}
@@ -97,7 +97,7 @@ view-deaf line = refl
 view-refused : (s line : List ℕ) (x : Refusal) (d : Bool) → eqb (numberOf x) 3 ≡ d → checkOf s ≡ checked.Refused x → getD s 0 0 < 256 → length s ≤ 257 →
     lineOf (controlOf (judged s (checked.Refused x) .next)) (over s line) ≡ judged s (checked.Refused x) .next
 unfolding judged
-view-refused s line x true e f b h = let n = cut-short s f (eqb-true (numberOf x) 3 e) in simp e (view-hearing s line (omega arith))
+view-refused s line x true e f b h = let n = turned s f .cut (eqb-true (numberOf x) 3 e) in simp e (view-hearing s line (omega arith))
 view-refused s line x false e f b h = simp e (view-deaf (over s line))
 
 view-judged : (s line : List ℕ) (r : Checked) → checkOf s ≡ r → getD s 0 0 < 256 → length s ≤ 257 →

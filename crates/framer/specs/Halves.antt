@@ -1,7 +1,7 @@
 -- The line buffer of an end that remembers its last accepted packet: two halves of 257 bytes. One half receives, and an accepted
 -- packet stays where it was received while the other half takes the next.
 use Prim.Native.Nat.{ℕ, _≤_}
-use mathlib.Core.Bool.{Bool, true, false, not}
+use mathlib.Core.Bool.{Bool, false, not}
 use mathlib.Core.List.{List, [], _++_}
 use mathlib.Core.Path.{_≡_}
 use lib.Dec.{leb}

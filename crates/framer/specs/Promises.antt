@@ -1,12 +1,11 @@
 -- What the framer's call promises: what it found, its control value, and every byte of the line buffer.
 use Prim.Native.Nat.{ℕ, _≤_}
-use mathlib.Core.Bool.{Bool, true, false}
+use mathlib.Core.Bool.{true, false}
 use mathlib.Core.List.{List, [], _∷_, _++_}
 use mathlib.Core.Path.{_≡_}
 use lib.Dec.{ltb, leb, eqb}
 use lib.ListN.{length, take}
 use Rattle.words.specs.Lists.{pick, over}
-use Rattle.words.specs.Machine.{Done}
 use Rattle.packet.specs.Packet.{headIn}
 use Rattle.packet.specs.declared.Refusal.the-variants.{Cut, Room}
 use Rattle.packet.specs.declared.Refusal.{Refusal}

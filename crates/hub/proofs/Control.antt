@@ -8,20 +8,20 @@ use lib.Dec.{eqb}
 use lib.ListN.{length}
 use borrow.Author.Tests.{eq-eqb, ne-eqb, le-leb, lt-leb}
 use Rattle.words.specs.Lists.{over}
-use Rattle.packet.specs.Opcodes.{host, cmdAck, cmdNak}
-use Rattle.packet.specs.Packet.{bodyOf, seal, statusAllowed, sourceAllowed, fieldsOf, buildOf, written, replyData, replyOpcode, replyBody}
+use Rattle.words.proofs.Lists.{never}
+use Rattle.packet.specs.Opcodes.{host}
+use Rattle.packet.specs.Packet.{seal, sourceAllowed, replyBody}
 use Rattle.packet.specs.Refusals.{causeOf}
 use Rattle.packet.specs.Promises.{Answer, Cause}
 use Rattle.packet.specs.declared.Refusal.{Refusal}
 use Rattle.packet.specs.declared.Refusal.the-variants as refusal
 use Rattle.packet.specs.declared.Reply.{Reply}
-use Rattle.packet.specs.declared.Reply.the-variants.{Ack, Nak}
+use Rattle.packet.specs.declared.Reply.the-variants.{Nak}
 use Rattle.packet.specs.declared.Built.{Built}
 use Rattle.packet.specs.declared.Built.the-variants.{Written, Refused}
-use Rattle.packet.proofs.Writing.{enough}
+use Rattle.packet.proofs.Writing.{reply-written, reply-never}
 use Rattle.framer.specs.Halves.{IdleHalves, AcceptsLast}
 use Rattle.framer.specs.declared.Halves.{Halves}
-use Rattle.framer.proofs.Outcomes.{never}
 use Rattle.hub.specs.Hub.{nakBytes}
 use Rattle.hub.specs.Promises.{Closed, SwitchedOn, Gatherings, soundOf, Within, OtherType, Bars, acceptsName, Accepts, Stays, Settles, Writes, nameBytes}
 use Rattle.hub.specs.declared.Gathering.{Gathering}
@@ -74,25 +74,15 @@ module _ {h : Halves} {n : ℕ} {joined : Joined} {a : Bool} {r : Stepped} (p : 
 
 -- ---- what goes out
 
--- With room enough a reply is never refused, and its length is the packet's.
-built-reply : (room : List ℕ) (y : Reply) → 7 ≤ length room → buildOf 7 room (replyOpcode y) host 0 (length (replyData y)) ≡ Written (length (seal (replyBody host y)))
-unfolding fieldsOf sourceAllowed statusAllowed seal replyBody replyOpcode replyData bodyOf
-built-reply room Ack h = enough 7 room cmdAck host 0 0 h
-built-reply room (Nak cause) h = enough 7 room cmdNak host 0 1 h
-
+-- With room enough a reply is never refused.
 module _ {room room′ : List ℕ} {y : Reply} {r : Built} (h : 7 ≤ length room) (k : Answer room host y r room′) where
   pub says-written : {n : ℕ} → r ≡ Written n → Writes (seal (replyBody host y)) room n room′
-  unfolding written
-  says-written e =
-      let b = built-reply room y h in
-      let i = k .is in
-      record { is = cc; answer-is = rw e at (k .room-is) }
+  unfolding sourceAllowed
+  says-written e = let w = reply-written refl h k e in record { is = w .0; answer-is = w .1 }
 
   pub says-refused : {x : Refusal} → r ≡ Refused x → Writes (seal (replyBody host y)) room 0 room′
-  says-refused e =
-      let b = built-reply room y h in
-      let i = k .is in
-      never (cc)
+  unfolding sourceAllowed
+  says-refused e = absurd (reply-never refl h k e)
 
 pub nak-bytes : (cause : ℕ) → (cause ≡ 0 → ⊥) → nakBytes cause ≡ seal (replyBody host (Nak cause))
 unfolding nakBytes

@@ -1,18 +1,19 @@
 -- The level of the whole hub: what the framer found goes to the joiner, and control value and buffers stand for the next state. Assumes nothing.
-use Prim.Native.Nat.{ℕ, _*_, _/_, _≤_, _<_}
+use Prim.Native.Nat.{ℕ, _≤_, _<_}
 use mathlib.Core.Path.{_≡_, refl, sym, ap, _∙_}
 use mathlib.Core.Bool.{Bool, true, false}
 use mathlib.Core.List.{List, [], _∷_}
 use native.Mathlib.Omega.{arith}
-use lib.ListN.{length, getD, length-take, length-set}
+use lib.ListN.{length, length-take}
 use borrow.Author.Tests.{le-leb, le-ltb, lt-ltb}
 use Rattle.words.specs.Lists.{pick, over}
 use Rattle.words.specs.Machine.{Done, through}
-use Rattle.words.proofs.Lists.{take-over, over-nil}
+use Rattle.words.proofs.Lists.{take-over, over-nil, never}
 use Rattle.words.proofs.Machine.{through-one}
 use Rattle.packet.specs.Packet.{unmarked}
 use Rattle.packet.specs.declared.Refusal.{Refusal}
 use Rattle.packet.specs.declared.Head.{Head}
+use Rattle.packet.proofs.Marks.{length-unmarked, unmarked-pick}
 use Rattle.framer.specs.Framer.{Line, hearing, Heard, packet, refused as noPacket, framerStep}
 use Rattle.framer.specs.Behind.{framed}
 use Rattle.framer.specs.Promises.{lineOf, begunOf}
@@ -22,7 +23,6 @@ use Rattle.framer.specs.declared.Event.the-variants.{Byte, CharacterGap, Messag
 use Rattle.framer.specs.declared.Halves.{Halves}
 use Rattle.framer.specs.declared.Listened.{Listened}
 use Rattle.framer.specs.declared.Found.the-variants.{Nothing, Packet, Refused}
-use Rattle.framer.proofs.Outcomes.{never}
 use Rattle.framer.proofs.TwoHalves.{kept-listened, listened-nothing, listened-refused, listened-packet, line-behind, kept-behind, control-behind}
 use Rattle.hub.specs.Joiner.{Gathered, none, some, Joiner, Output, added, repeated, handed, refused, bytesOf}
 use Rattle.hub.specs.Hub.{HubState, packetStep, heardStep, cleared, hubStep, answerBytes, messageBytes}
@@ -64,20 +64,12 @@ few-joiner g last gather h = few-by g last gather (g .begun) refl h
 
 -- ---- a step of the hub
 
-length-unmarked : (b : List ℕ) → length (unmarked b) ≡ length b
-unfolding unmarked
-length-unmarked b = length-set b 3 (getD b 3 0 / 2 * 2)
-
 -- The joiner and the framer's step that a control value, the buffers and an event stand for.
 abbrev joinerAt : Hub → List ℕ → List ℕ → Joiner
 joinerAt hub line gather = joinerOf (soundOf (hub .gathering)) (keptIn (hub .line) line) gather
 
 abbrev framerAt : Hub → List ℕ → Event → Done Line Heard
 framerAt hub line e = framerStep (lineIn (hub .line) line) e
-
-unmarked-pick : (a : Bool) (x y : List ℕ) → unmarked (pick a x y) ≡ pick a (unmarked x) (unmarked y)
-unmarked-pick true x y = refl
-unmarked-pick false x y = refl
 
 abbrev halvesBehind : Bool → Halves → ℕ → Halves
 halvesBehind a h n = pick a (acceptedOf h n) h

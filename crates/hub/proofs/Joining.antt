@@ -129,6 +129,9 @@ module _ (g : Gathering) (last gather body carried : List ℕ) {t : Bool} (s : S
     unfolding joined joinerOf typeIn
     adding-more z = adding-joined ∙ simp (ne-eqb (getD body 3 0 / 2 % 2) 0 z, whole, sym q)
 
+length-whole : (g : Gathering) (gather piece : List ℕ) → Sound g → length gather ≡ 4096 → length (take (g .count) gather ++ piece) ≡ g .count + length piece
+length-whole g gather piece s l = let m = s .few in simp (length-append, length-take) (omega arith)
+
 module _ {g : Gathering} {body carried gather message : List ℕ} {t : Bool} {r : Joined} (s : Sound g) (l : length gather ≡ 4096) (q : carried ≡ dataIn body) (p : OtherType g (getD carried 0 0) t) where
   pub adds-other : t ≡ true → Bars r → Adds g body gather message r gather message
   adds-other e b = record { joins = λ last. bars-joins (joinerOf g last gather) (adding-is g last gather body carried s l q p ∙ simp e) b }
@@ -141,13 +144,11 @@ module _ {g : Gathering} {body carried gather message : List ℕ} {t : Bool} {r 
       HandsOut (getD carried 0 0) (g .count) (take (length carried - 1) (drop 1 carried)) gather message r message′ → Adds g body gather message r gather message′
   unfolding toldOf nameOf bytesOf messageOf messageBytes
   adds-last e n z k =
-      let m = s .few in
-      let long : length (take (g .count) gather ++ drop 1 carried) ≡ g .count + length (drop 1 carried) = simp (length-append, length-take) (omega arith) in
       record {
         joins = λ last.
             rw (adding-last g last gather body carried s l q p e n z)
             (record {
-              told-is = rw (k .is, rest-part 1 carried, long) refl;
+              told-is = rw (k .is, rest-part 1 carried, length-whole g gather (drop 1 carried) s l) refl;
               gathering-is = rw (k .is) refl;
               gather-is = sym (over-nil gather);
               message-is = rw (rest-part 1 carried) at (k .message-is);
@@ -160,7 +161,6 @@ module _ {g : Gathering} {body carried gather message : List ℕ} {t : Bool} {r 
   adds-more e n z k =
       let m = s .few in
       let front : length (take (g .count) gather) ≡ g .count = length-take-le (g .count) gather (omega arith) in
-      let long : length (take (g .count) gather ++ drop 1 carried) ≡ g .count + length (drop 1 carried) = simp (length-append, length-take) (omega arith) in
       let put : overAt (g .count) (drop 1 carried) gather ≡ over (take (g .count) gather ++ drop 1 carried) gather =
       rw (over-take (g .count) gather) at (over-behind (g .count) (take (g .count) gather) (drop 1 carried) gather front) in
       record {
@@ -168,7 +168,7 @@ module _ {g : Gathering} {body carried gather message : List ℕ} {t : Bool} {r 
             rw (adding-more g last gather body carried s l q p e n z)
             (record {
               told-is = rw (k .is) refl;
-              gathering-is = rw (k .is, rest-part 1 carried, long) refl;
+              gathering-is = rw (k .is, rest-part 1 carried, length-whole g gather (drop 1 carried) s l) refl;
               gather-is = (rw (rest-part 1 carried) at (k .gather-is)) ∙ put;
               message-is = sym (over-nil message);
             });

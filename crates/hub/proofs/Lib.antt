@@ -1,7 +1,7 @@
+pub mod Calm
 pub mod Control
 pub mod Hearing
 pub mod Joining
 pub mod Outcomes
-pub mod Runs
 pub mod Theorems
 pub mod Unique

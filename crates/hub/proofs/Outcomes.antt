@@ -7,9 +7,10 @@ use native.Mathlib.Omega.{arith}
 use lib.Dec.{eqb, ltb}
 use lib.ListN.{length, getD, length-append}
 use borrow.Author.Tests.{ne-eqb, ltb-false, le-ltb}
-use Rattle.words.specs.Lists.{pick}
+use Rattle.words.specs.Lists.{pick, Each, none as no-more, one}
 use Rattle.words.specs.Machine.{Done, after, through}
 use Rattle.words.proofs.Machine.{through-one}
+use Rattle.words.proofs.Lists.{never}
 use Rattle.packet.specs.Opcodes.{reader, decodeData}
 use Rattle.packet.specs.Packet.{bodyIn, dataIn, moreBit, statusAllowed, unmarked, resentEqual, isAnswer}
 use Rattle.packet.specs.Refusals.{numberOf, causeOf}
@@ -18,11 +19,11 @@ use Rattle.packet.specs.declared.Refusal.the-variants as refusal
 use Rattle.framer.specs.Framer.{Line, hearing, deaf, Heard, packet, refused as noPacket, framerStep}
 use Rattle.framer.specs.declared.Event.{Event}
 use Rattle.framer.proofs.Outcomes as framer
-use Rattle.framer.proofs.Outcomes.{brings, never}
+use Rattle.framer.proofs.Outcomes.{brings}
 use Rattle.hub.specs.Joiner.{none, some, Joiner, Output, added, repeated, handed, refused, bytesOf, typeIn, pieceIn, otherType, joinStep, adding, joined, barring}
 use Rattle.hub.specs.Hub.{HubState, refuses, decodeStep, packetStep, heardStep}
-use Rattle.hub.specs.Promises.{accepts}
-use Rattle.hub.proofs.Runs.{Each}
+use Rattle.hub.specs.Promises.{nameOf, toldOf, accepts}
+use Rattle.hub.specs.declared.Told.the-variants as told
 
 -- Nothing; a refusal from number `least` on and below 10, answered by a NAK; number 10; only acknowledged; added; handed out.
 pub data Outcome (least : ℕ) (j : Joiner) (body : List ℕ) : Done Joiner Output → Type 0 where
@@ -88,12 +89,12 @@ Short (refused r) = Unit {0}
 
 pub short : {least : ℕ} {j : Joiner} {body : List ℕ} {d : Done Joiner Output} → Outcome least j body d → Each Short (d .told)
 unfolding barring
-short nothing = tt
-short (plain l m c) = (tt, tt)
-short (bars l) = (tt, tt)
-short (again b) = (tt, tt)
-short (more b m) = (tt, tt)
-short (whole b m) = (simp length-append (omega arith), tt)
+short nothing = no-more
+short (plain l m c) = one tt no-more
+short (bars l) = one tt no-more
+short (again b) = one tt no-more
+short (more b m) = one tt no-more
+short {j = j} {body} (whole b m) = one {x = handed (typeIn body) (bytesOf (j .gathered) ++ pieceIn body)} (simp length-append (omega arith)) no-more
 
 -- ---- a refusal
 
@@ -114,6 +115,16 @@ refusing (again b) q = never (cc)
 refusing (more b m) q = never (cc)
 refusing (whole b m) q = never (cc)
 
+-- What is told by name as a refusal is that refusal, and nothing else.
+pub named-refused : {least : ℕ} {j : Joiner} {body : List ℕ} {d : Done Joiner Output} {x : Refusal} → Outcome least j body d → toldOf (d .told) ≡ told.Refused x → d .told ≡ refused x ∷ []
+unfolding barring toldOf nameOf
+named-refused nothing q = never (cc)
+named-refused {x = x} (plain {x = y} l m c) q = let e : y ≡ x = cc in rw e refl
+named-refused {x = x} (bars l) q = let e : refusal.Barred ≡ x = cc in rw e refl
+named-refused (again b) q = never (cc)
+named-refused (more b m) q = never (cc)
+named-refused (whole b m) q = never (cc)
+
 -- ---- a bar
 
 abbrev pub NotHanded : Output → Type 0
@@ -124,9 +135,9 @@ NotHanded (refused r) = Unit {0}
 
 pub barred-still : {least : ℕ} {j : Joiner} {body : List ℕ} {d : Done Joiner Output} → Outcome least j body d → j .barred ≡ true → (d .next .barred ≡ true) × Each NotHanded (d .told)
 unfolding barring
-barred-still nothing q = (q, tt)
-barred-still (plain l m c) q = (q, (tt, tt))
-barred-still (bars l) q = (refl, (tt, tt))
+barred-still nothing q = (q, no-more)
+barred-still (plain l m c) q = (q, one tt no-more)
+barred-still (bars l) q = (refl, one tt no-more)
 barred-still (again b) q = never (cc)
 barred-still (more b m) q = never (cc)
 barred-still (whole b m) q = never (cc)

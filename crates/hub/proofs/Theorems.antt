@@ -1,38 +1,38 @@
 -- The theorems over the hub's definitions: gaps, refusals, the bar, repeats, good packets, and the 4,096 bytes. Assumes nothing.
-use Prim.Native.Nat.{ℕ, _+_, _-_, _≤_, _<_}
+use Prim.Native.Nat.{ℕ, _+_, _≤_, _<_}
 use mathlib.Core.Path.{_≡_, refl, ap, _∙_}
 use mathlib.Core.Bool.{true, false}
 use mathlib.Core.List.{List, [], _∷_}
 use native.Mathlib.Omega.{arith}
-use lib.Dec.{eqb, ltb}
 use lib.ListN.{length, getD}
-use lib.Seq.{take-length}
 use borrow.Author.Tests.{eq-eqb, ne-eqb, le-ltb}
-use Rattle.words.specs.Lists.{pick, Bytes}
-use Rattle.words.specs.Machine.{Done, after, through}
+use Rattle.words.specs.Lists.{Bytes, Each}
+use Rattle.words.specs.Machine.{Done, through}
 use Rattle.words.proofs.Lists.{bytes-cons, same-refl}
-use Rattle.words.proofs.Machine.{through-one}
+use Rattle.words.proofs.Machine.{through-one, each-all, run-keeps}
 use Rattle.packet.specs.Opcodes.{host, reader, decodeData}
 use Rattle.packet.specs.Packet.{bodyOf, seal, dataIn, statusAllowed, unmarked, resentEqual, isAnswer, replyBody}
 use Rattle.packet.specs.Refusals.{numberOf, causeOf}
 use Rattle.packet.specs.declared.Refusal.{Refusal}
 use Rattle.packet.specs.declared.Refusal.the-variants.{Barred}
 use Rattle.packet.specs.declared.Reply.the-variants.{Ack, Nak}
-use Rattle.packet.proofs.Theorems.{Body, body-of}
-use Rattle.framer.specs.Framer.{hearing, deaf, packet, framerStep}
+use Rattle.packet.proofs.Theorems.{Body, body-of, data-of}
+use Rattle.packet.proofs.Judge.{status-piece}
+use Rattle.framer.specs.Framer.{hearing, packet, framerStep}
 use Rattle.framer.specs.Behind.{framed}
 use Rattle.framer.specs.declared.Event.{Event}
 use Rattle.framer.specs.declared.Event.the-variants.{Byte, CharacterGap, MessageGap}
 use Rattle.framer.proofs.Behind.{framed-run}
 use Rattle.framer.proofs.Theorems.{packet-found, bytesOf as eventsOf}
 use Rattle.hub.specs.Joiner.{none, Joiner, Output, repeated, handed, refused, bytesOf, typeIn, pieceIn, otherType, joinStep, adding, joined, barring}
-use Rattle.hub.specs.Hub.{HubState, switchedOn, decodeStep, packetStep, heardStep, cleared, hubStep, answerBytes, messageBytes}
-use Rattle.hub.specs.Promises.{answerOf, messageOf, stateOf}
+use Rattle.hub.specs.Hub.{HubState, switchedOn, afterRefusal, decodeStep, packetStep, heardStep, cleared, hubStep, answerBytes, messageBytes}
+use Rattle.hub.specs.Promises.{toldOf, answerOf, messageOf, stateOf}
 use Rattle.hub.specs.declared.Hub.{Hub}
+use Rattle.hub.specs.declared.Told.the-variants as told
 use Rattle.hub.proofs.Control.{nak-bytes}
 use Rattle.hub.proofs.Hearing.{few-joiner}
-use Rattle.hub.proofs.Outcomes.{Refusing, refusing, barred-still, kept, short, NotHanded, Short, event-happens, event-line}
-use Rattle.hub.proofs.Runs.{Each, each-all, run-keeps}
+use Rattle.hub.proofs.Outcomes.{Refusing, refusing, named-refused, barred-still, kept, short, NotHanded, Short, event-happens, event-line}
+use Rattle.hub.proofs.Calm.{calm-bytes, calm-run}
 
 -- A hub with nothing begun.
 abbrev pub idle : Joiner → HubState
@@ -54,13 +54,10 @@ not-cleared MessageGap s h = absurd (h refl)
 
 -- ---- refusals
 
--- What document 01 says a refusal changes: the packet begun is ended, 1 and 2 make the framer deaf, 10 drops what was gathered and bars.
-abbrev pub afterRefusal : Refusal → HubState → HubState
-afterRefusal r s =
-    record {
-      line = pick (ltb (numberOf r) 3) deaf (hearing []);
-      core = pick (eqb (numberOf r) 10) (record { barred = true; last = s .core .last; gathered = none }) (s .core);
-    }
+-- What a caller is told by name as a refusal is that one refusal.
+pub refusal-named : (s : HubState) (e : Event) {r : Refusal} → toldOf (hubStep s e .told) ≡ told.Refused r → hubStep s e .told ≡ refused r ∷ []
+unfolding hubStep framed
+refusal-named s e q = named-refused (event-happens s e .outcome) q
 
 module _ (s : HubState) (e : Event) {r : Refusal} (q : hubStep s e .told ≡ refused r ∷ []) where
   happened : Refusing (event-happens s e .least) (s .core) r (through heardStep (s .core) (framerStep (s .line) e .told))
@@ -75,6 +72,10 @@ module _ (s : HubState) (e : Event) {r : Refusal} (q : hubStep s e .told ≡ ref
   -- A refusal other than number 10 leaves the bar, the last accepted packet and what is gathered as they were.
   pub refusal-keeps : (numberOf r ≡ 10 → ⊥) → (e ≡ MessageGap → ⊥) → hubStep s e .next .core ≡ s .core
   refusal-keeps h g = rw (refusal-changes, not-cleared e (afterRefusal r s) g) (simp (ne-eqb (numberOf r) 10 h))
+
+  -- Its number is one of those that are answered, so not 13.
+  pub refusal-cause : causeOf r ≡ 0 → ⊥
+  refusal-cause = happened .answered
 
   -- A refusal hands out no message.
   pub refusal-silent : messageOf (hubStep s e .told) ≡ []
@@ -133,19 +134,14 @@ barred-stays s e g b =
 -- The same for any events without a message gap among them.
 pub barred-run : (s : HubState) (es : List Event) → Each (λ (e : Event). e ≡ MessageGap → ⊥) es → s .core .barred ≡ true →
     (through hubStep s es .next .core .barred ≡ true) × Each NotHanded (through hubStep s es .told)
-barred-run s es g b = run-keeps hubStep (λ (s : HubState). s .core .barred ≡ true) (λ (e : Event). e ≡ MessageGap → ⊥) NotHanded barred-stays s es g b
+barred-run s es g b = run-keeps hubStep (λ (s : HubState). s .core .barred ≡ true) (λ (e : Event). e ≡ MessageGap → ⊥) NotHanded barred-stays s g b
 
 -- ---- packets on the line
-
-bytes-run : (s : HubState) (bytes : List ℕ) → through hubStep s (eventsOf bytes) ≡ through (framed heardStep) s (eventsOf bytes)
-unfolding through after hubStep cleared
-bytes-run s [] = refl
-bytes-run s (x ∷ xs) = rw (bytes-run (framed heardStep s (Byte x) .next) xs) refl
 
 -- The bytes of a packet, fed one by one to a hub with nothing begun, bring the joiner's step on that packet and nothing else.
 pub packet-run : (j : Joiner) (body : List ℕ) → Body body → through hubStep (idle j) (eventsOf (seal body)) ≡ record { next = idle (packetStep j body .next); told = packetStep j body .told }
 unfolding heardStep
-packet-run j body k = bytes-run (idle j) (seal body) ∙ (framed-run heardStep (idle j) (eventsOf (seal body)) ∙ rw (packet-found body k, through-one heardStep j (packet body)) refl)
+packet-run j body k = calm-run (idle j) (calm-bytes (seal body)) ∙ (framed-run heardStep (idle j) (eventsOf (seal body)) ∙ rw (packet-found body k, through-one heardStep j (packet body)) refl)
 
 -- ---- repeats, and what is no repeat
 
@@ -172,13 +168,9 @@ piece-joined j {body} b k e t m = decodes j k ∙ (other-taken j body b e ∙ si
 
 -- ---- good packets
 
-data-of : (o s t : ℕ) (d : List ℕ) → dataIn (bodyOf o s t d) ≡ d
-unfolding dataIn bodyOf
-data-of o s t d = let e : length d + 4 - 4 ≡ length d = omega arith in rw e (take-length d)
-
-piece-decodes : (t code : ℕ) (p : List ℕ) → statusAllowed decodeData t ≡ true → Decodes (bodyOf decodeData reader t (code ∷ p))
+pub piece-decodes : (t code : ℕ) (p : List ℕ) → t < 4 → Decodes (bodyOf decodeData reader t (code ∷ p))
 unfolding bodyOf
-piece-decodes t code p e = record { opcode = refl; source = refl; status = e; some = λ z. omega (arith, ap length (data-of decodeData reader t (code ∷ p))) }
+piece-decodes t code p h = record { opcode = refl; source = refl; status = status-piece t h; some = λ z. omega (arith, ap length (data-of decodeData reader t (code ∷ p))) }
 
 -- A message of one piece.
 abbrev pub onePiece : ℕ → List ℕ → List ℕ
@@ -187,10 +179,10 @@ onePiece code p = bodyOf decodeData reader 0 (code ∷ p)
 module _ (code : ℕ) (p : List ℕ) (few : length p ≤ 250) where
   -- A hub just switched on hands out the piece's bytes with its type, and it is the last accepted packet.
   pub good-packet : packetStep (switchedOn .core) (onePiece code p) ≡ record { next = record { barred = false; last = onePiece code p; gathered = none }; told = handed code p ∷ [] }
-  unfolding statusAllowed resentEqual otherType typeIn pieceIn bytesOf joined unmarked bodyOf
+  unfolding resentEqual otherType typeIn pieceIn bytesOf joined unmarked bodyOf
   good-packet =
       let d = data-of decodeData reader 0 (code ∷ p) in
-      piece-joined (switchedOn .core) refl (piece-decodes 0 code p refl) refl refl (simp d (omega arith)) ∙ simp d
+      piece-joined (switchedOn .core) refl (piece-decodes 0 code p (omega arith)) refl refl (simp d (omega arith)) ∙ simp d
 
   module _ (c : code < 256) (b : Bytes p) where
     -- The same on the line, byte by byte.
@@ -213,8 +205,8 @@ module _ (code : ℕ) (p : List ℕ) (few : length p ≤ 250) where
 -- Its marked copy is then only acknowledged.
 pub good-repeated : (code : ℕ) (p : List ℕ) (j : Joiner) → j .barred ≡ false → j .last ≡ onePiece code p →
     packetStep j (bodyOf decodeData reader 1 (code ∷ p)) ≡ record { next = j; told = repeated ∷ [] }
-unfolding statusAllowed resentEqual unmarked bodyOf
-good-repeated code p j b e = repeat-acknowledged j b (piece-decodes 1 code p refl) (rw e (same-refl (onePiece code p)))
+unfolding resentEqual unmarked bodyOf
+good-repeated code p j b e = repeat-acknowledged j b (piece-decodes 1 code p (omega arith)) (rw e (same-refl (onePiece code p)))
 
 -- ---- at most 4,096 bytes
 
@@ -235,7 +227,7 @@ few-step s e h = let k = event-happens s e .outcome in (few-cleared e (framed he
 
 -- The same for any events.
 pub few-run : (s : HubState) (es : List Event) → Few s → Few (through hubStep s es .next) × Each Short (through hubStep s es .told)
-few-run s es h = run-keeps hubStep Few (λ (e : Event). Unit {0}) Short (λ s e u f. few-step s e f) s es (each-all (λ (e : Event). Unit {0}) (λ e. tt) es) h
+few-run s es h = run-keeps hubStep Few (λ (e : Event). Unit {0}) Short (λ s e u f. few-step s e f) s (each-all (λ e. tt) es) h
 
 -- Whatever control value a caller gives, it stands for no more.
 pub few-control : (hub : Hub) (line gather : List ℕ) → length gather ≡ 4096 → Few (stateOf hub line gather)

@@ -1,23 +1,22 @@
 -- Document 01, the hub: what it does with each event, and what goes out.
 use Prim.Native.Nat.{ℕ}
-use mathlib.Core.Bool.{Bool, true, false}
-use mathlib.Core.List.{List, [], _∷_, _++_}
-use lib.Dec.{eqb}
+use mathlib.Core.Bool.{true, false}
+use mathlib.Core.List.{List, [], _∷_}
+use lib.Dec.{eqb, ltb}
 use lib.ListN.{length, getD}
 use Rattle.words.specs.Lists.{pick}
 use Rattle.words.specs.Machine.{Done}
 use Rattle.packet.specs.Opcodes.{host, reader, decodeData}
 use Rattle.packet.specs.Packet.{seal, dataIn, statusAllowed, replyBody, isAnswer}
-use Rattle.packet.specs.Refusals.{causeOf}
+use Rattle.packet.specs.Refusals.{numberOf, causeOf}
 use Rattle.packet.specs.declared.Refusal.{Refusal}
 use Rattle.packet.specs.declared.Refusal.the-variants.{Source, Status, Opcode, Data}
-use Rattle.packet.specs.declared.Reply.{Reply}
 use Rattle.packet.specs.declared.Reply.the-variants.{Ack, Nak}
-use Rattle.framer.specs.Framer.{Line, hearing, Heard, packet, refused as noPacket}
+use Rattle.framer.specs.Framer.{hearing, deaf, Heard, packet, refused as noPacket}
 use Rattle.framer.specs.Behind.{Behind, framed}
 use Rattle.framer.specs.declared.Event.{Event}
 use Rattle.framer.specs.declared.Event.the-variants.{Byte, CharacterGap, MessageGap}
-use Rattle.hub.specs.Joiner.{Gathered, none, Joiner, Output, added, repeated, handed, refused, joinStep}
+use Rattle.hub.specs.Joiner.{none, Joiner, Output, added, repeated, handed, refused, joinStep}
 
 -- The hub is the joiner behind a framer.
 abbrev pub HubState : Type 0
@@ -72,3 +71,11 @@ messageBytes added = []
 messageBytes repeated = []
 messageBytes (handed t bytes) = bytes
 messageBytes (refused r) = []
+
+-- What a refusal changes, for the theorems that say so: the packet begun is ended, 1 and 2 make the framer deaf, 10 drops what was gathered and bars.
+abbrev pub afterRefusal : Refusal → HubState → HubState
+afterRefusal r s =
+    record {
+      line = pick (ltb (numberOf r) 3) deaf (hearing []);
+      core = pick (eqb (numberOf r) 10) (record { barred = true; last = s .core .last; gathered = none }) (s .core);
+    }

@@ -4,21 +4,21 @@ use mathlib.Core.Bool.{Bool, true, false, not}
 use mathlib.Core.List.{List, [], _∷_, _++_}
 use mathlib.Core.Path.{_≡_}
 use lib.Dec.{ltb, leb, eqb}
-use lib.ListN.{length, take, drop}
+use lib.ListN.{length, take}
 use Rattle.words.specs.Lists.{pick, either, over, overAt}
 use Rattle.words.specs.Machine.{Done}
 use Rattle.packet.specs.Opcodes.{host}
 use Rattle.packet.specs.Packet.{unmarked, seal, replyBody}
 use Rattle.packet.specs.Refusals.{causeOf}
-use Rattle.packet.specs.declared.Reply.the-variants.{Ack, Nak}
+use Rattle.packet.specs.declared.Reply.the-variants.{Ack}
 use Rattle.packet.specs.declared.Refusal.the-variants as refusal
-use Rattle.framer.specs.Behind.{Behind, framed}
+use Rattle.framer.specs.Behind.{framed}
 use Rattle.framer.specs.Halves.{lineIn, keptIn, receivedIn, idleHalves, listenedOf, bufferAfter, acceptedOf}
 use Rattle.framer.specs.declared.Halves.{Halves}
 use Rattle.framer.specs.declared.Event.{Event}
 use Rattle.framer.specs.declared.Event.the-variants.{Byte, CharacterGap, MessageGap}
-use Rattle.hub.specs.Joiner.{Gathered, none, some, Joiner, Output, added, repeated, handed, refused, bytesOf, otherType, adding}
-use Rattle.hub.specs.Hub.{HubState, switchedOn, packetStep, heardStep, hubStep, nakBytes, answerBytes, messageBytes}
+use Rattle.hub.specs.Joiner.{Gathered, none, some, Joiner, Output, added, repeated, handed, refused, bytesOf, adding}
+use Rattle.hub.specs.Hub.{HubState, packetStep, heardStep, hubStep, nakBytes, answerBytes, messageBytes}
 use Rattle.hub.specs.declared.Gathering.{Gathering}
 use Rattle.hub.specs.declared.Hub.{Hub}
 use Rattle.hub.specs.declared.Told.{Told}

@@ -1,14 +1,15 @@
 -- The verdict of each test on a packet's fields, one law for each `return`. Assumes nothing.
 use Prim.Native.Nat.{ℕ, _+_, _-_, _*_, _/_, _%_, _≤_, _<_}
-use mathlib.Core.Path.{_≡_, refl, sym, _∙_}
+use mathlib.Core.Path.{_≡_, sym, _∙_}
 use mathlib.Core.Bool.{Bool, true, false}
 use mathlib.Core.List.{List, []}
-use lib.Dec.{eqb, ltb}
+use lib.Dec.{eqb}
 use lib.ListN.{length, getD, take, drop, length-drop, drop-of-length-le}
 use lib.Seq.{take-nil, take-all}
 use native.Mathlib.Omega.{arith}
 use borrow.Author.Tests.{eq-eqb, ne-eqb, le-leb, lt-leb, lt-ltb, le-ltb}
 use Rattle.words.specs.Lists.{Wide}
+use Rattle.words.proofs.Lists.{either-true}
 use Rattle.packet.specs.Opcodes.{decodeData, host, reader}
 use Rattle.packet.specs.Packet.{statusAllowed, sourceAllowed, fieldsOf, checkOf, checksumOf, checksumIn, bodyIn, dataIn, headIn}
 use Rattle.packet.specs.Promises.{Sum, Check, DataPart, Allowed, AllowedSource, Fields}
@@ -31,6 +32,11 @@ status-last {o} {t} e f g = record { is = simp (eq-eqb (t / 4 % 2) 0 e, eq-eqb (
 pub status-more : {o t : ℕ} → t / 4 % 2 ≡ 0 → t / 16 ≡ 0 → (t / 2 % 2 ≡ 0 → ⊥) → Allowed o t (eqb o decodeData)
 unfolding statusAllowed
 status-more {o} {t} e f h = record { is = simp (eq-eqb (t / 4 % 2) 0 e, eq-eqb (t / 16) 0 f, ne-eqb (t / 2 % 2) 0 h) }
+
+-- The more bit and the resend mark are all that a piece of a message may have.
+pub status-piece : (t : ℕ) → t < 4 → statusAllowed decodeData t ≡ true
+unfolding statusAllowed
+status-piece t h = simp (eq-eqb (t / 4 % 2) 0 (omega arith), eq-eqb (t / 16) 0 (omega arith), either-true (eqb (t / 2 % 2) 0))
 
 pub source-reader : {s : ℕ} → s ≡ reader → AllowedSource s true
 unfolding sourceAllowed

@@ -1,17 +1,17 @@
 -- The comparison apart from the resend mark, taken apart where the code looks. Assumes nothing.
-use Prim.Native.Nat.{ℕ, suc, _+_, _-_, _*_, _/_, _%_, _≤_, _<_}
+use Prim.Native.Nat.{ℕ, _+_, _-_, _*_, _/_, _%_, _≤_, _<_}
 use mathlib.Core.Path.{_≡_, refl, sym, ap, _∙_}
 use mathlib.Core.Bool.{Bool, true, false}
-use mathlib.Core.List.{List, [], _∷_, _++_}
+use mathlib.Core.List.{List, _∷_, _++_}
 use native.Mathlib.Omega.{arith}
 use native.Mathlib.Decide.{decLt}
 use lib.Dec.{eqb}
 use lib.ListN.{length, getD, take, drop, set, length-set, length-take, List·getD-eq-default}
 use lib.Seq.{set-split, set-out, set-set, getD-set-same}
 use borrow.Author.Tests.{eq-eqb, ne-eqb}
-use Rattle.words.specs.Lists.{both, sameBytes, Compared}
+use Rattle.words.specs.Lists.{both, sameBytes, Compared, pick}
 use Rattle.words.proofs.Lists.{same-refl, same-equal, other-length, same-append, rest-part}
-use Rattle.packet.specs.Packet.{unmarked, marked, equalUnmarked, resentEqual, isAnswer}
+use Rattle.packet.specs.Packet.{unmarked, marked, equalUnmarked, resentEqual, isAnswer, bodyOf}
 use Rattle.packet.specs.Promises.{Equal, Resent, IsAnswer}
 use Rattle.packet.specs.Opcodes.{cmdAck, cmdNak}
 
@@ -19,6 +19,14 @@ use Rattle.packet.specs.Opcodes.{cmdAck, cmdNak}
 pub unmarked-split : (b : List ℕ) → 4 ≤ length b → unmarked b ≡ take 3 b ++ (getD b 3 0 / 2 * 2 ∷ drop 4 b)
 unfolding unmarked
 unmarked-split b h = set-split b 3 (getD b 3 0 / 2 * 2) h
+
+pub length-unmarked : (b : List ℕ) → length (unmarked b) ≡ length b
+unfolding unmarked
+length-unmarked b = length-set b 3 (getD b 3 0 / 2 * 2)
+
+pub unmarked-pick : (a : Bool) (x y : List ℕ) → unmarked (pick a x y) ≡ pick a (unmarked x) (unmarked y)
+unmarked-pick true x y = refl
+unmarked-pick false x y = refl
 
 pub equal-split : (a b : List ℕ) → 4 ≤ length a → length a ≡ length b →
     equalUnmarked a b ≡ both (sameBytes (take 3 a) (take 3 b)) (both (eqb (getD a 3 0 / 2 * 2) (getD b 3 0 / 2 * 2)) (sameBytes (drop 4 a) (drop 4 b)))
@@ -28,9 +36,8 @@ equal-split a b h e =
     (same-append (take 3 a) (take 3 b) (getD a 3 0 / 2 * 2 ∷ drop 4 a) (getD b 3 0 / 2 * 2 ∷ drop 4 b) (simp length-take (omega arith)))
 
 pub equal-length : {a b : List ℕ} → (length a ≡ length b → ⊥) → Equal a b false
-unfolding equalUnmarked unmarked
-equal-length {a} {b} h =
-    record { is = sym (other-length (set a 3 (getD a 3 0 / 2 * 2)) (set b 3 (getD b 3 0 / 2 * 2)) (λ e. h (sym (length-set a 3 (getD a 3 0 / 2 * 2)) ∙ (e ∙ length-set b 3 (getD b 3 0 / 2 * 2))))) }
+unfolding equalUnmarked
+equal-length {a} {b} h = record { is = sym (other-length (unmarked a) (unmarked b) (λ e. h (sym (length-unmarked a) ∙ (e ∙ length-unmarked b)))) }
 
 pub equal-short : {a b : List ℕ} {r : Bool} → length a < 4 → length a ≡ length b → Compared a b r → Equal a b r
 unfolding equalUnmarked unmarked
@@ -48,6 +55,15 @@ module _ {a b : List ℕ} {r : Bool} (h : 4 ≤ length a) (e : length a ≡ leng
   equal-rest f q k = record { is = (rw (rest-part 4 a, rest-part 4 b) at (k .is)) ∙ sym (equal-split a b h e ∙ simp (sym (front .is) ∙ f, eq-eqb (getD a 3 0 / 2 * 2) (getD b 3 0 / 2 * 2) (omega arith))) }
 
 -- ---- the mark itself
+
+-- The two statuses that differ only in the mark.
+pub unmarked-of : (o s t u : ℕ) (d : List ℕ) → t % 2 ≡ 0 → u / 2 ≡ t / 2 → unmarked (bodyOf o s u d) ≡ bodyOf o s t d
+unfolding unmarked bodyOf
+unmarked-of o s t u d even h = let e : u / 2 * 2 ≡ t = omega arith in rw e refl
+
+pub marked-of : (o s t : ℕ) (d : List ℕ) → t % 2 ≡ 0 → marked (bodyOf o s t d) ≡ bodyOf o s (t + 1) d
+unfolding marked bodyOf
+marked-of o s t d even = let e : t / 2 * 2 + 1 ≡ t + 1 = omega arith in rw e refl
 
 -- A marked copy is equal to its packet apart from the mark, and the comparison says so of no other.
 pub unmark-mark : (b : List ℕ) → unmarked (marked b) ≡ unmarked b

@@ -1,12 +1,12 @@
 -- The byte sum: its laws, its bound, and what the loop of `sum` keeps. Assumes nothing.
-use Prim.Native.Nat.{ℕ, zero, suc, _+_, _-_, _*_, _<_, _≤_}
-use mathlib.Core.Path.{_≡_, refl, sym, ap, _∙_}
+use Prim.Native.Nat.{ℕ, _+_, _*_, _<_, _≤_}
+use mathlib.Core.Path.{_≡_, refl, ap, _∙_}
 use mathlib.Core.List.{List, [], _∷_, _++_}
-use native.Mathlib.Nat.{le-antisymm, add-assoc}
+use native.Mathlib.Nat.{le-antisymm}
 use native.Mathlib.Numerals.{add-one}
 use native.Mathlib.Omega.{arith}
-use lib.ListN.{length, getD, take, drop}
-use lib.Seq.{take-suc, take-all, take-length, getD-take, getD-drop}
+use lib.ListN.{length, getD, take}
+use lib.Seq.{take-suc, take-length}
 use Rattle.words.specs.Lists.{Bytes}
 use Rattle.words.proofs.Lists.{bytes-head, bytes-tail}
 use Rattle.packet.specs.Packet.{sumOf}

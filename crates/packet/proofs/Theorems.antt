@@ -1,6 +1,6 @@
 -- The theorems over the packet's definitions: what is sealed is found again whatever follows, and what is found has exactly that layout.
 -- Assumes nothing.
-use Prim.Native.Nat.{ℕ, zero, suc, _+_, _-_, _*_, _/_, _%_, _≤_, _<_}
+use Prim.Native.Nat.{ℕ, suc, _+_, _-_, _/_, _%_, _≤_, _<_}
 use mathlib.Core.Path.{_≡_, refl, sym, ap, _∙_}
 use mathlib.Core.Bool.{Bool, true, false}
 use mathlib.Core.List.{List, [], _∷_, _++_, append-assoc}
@@ -9,17 +9,16 @@ use native.Mathlib.Omega.{arith}
 use native.Mathlib.Decide.{decLe}
 use lib.Dec.{eqb, ltb}
 use lib.ListN.{length, getD, take, drop, length-append, length-take, length-drop, List·getD-append, take-append-drop}
-use lib.Seq.{take-at, take-append-seam, take-append-le, take-append-add, getD-append-add, getD-at, drop-cons, take-length, length-take-le, getD-take}
-use borrow.Author.Tests.{ltb-true, ltb-false, eqb-true, eqb-false, lt-ltb, le-ltb, eq-eqb, ne-eqb}
-use Rattle.words.specs.Lists.{pick, Bytes, Wide}
-use Rattle.words.proofs.Lists.{bytes-cons, bytes-take}
+use lib.Seq.{take-at, take-append-seam, take-append-le, take-append-add, getD-append-add, drop-cons, take-length, length-take-le, getD-take}
+use borrow.Author.Tests.{ltb-true, ltb-false, eqb-true, lt-ltb, le-ltb, eq-eqb, ne-eqb}
+use Rattle.words.specs.Lists.{pick, Bytes}
+use Rattle.words.proofs.Lists.{bytes-cons, bytes-take, never}
 use Rattle.packet.specs.Packet.{bodyOf, sumOf, checksumOf, seal, bodyIn, dataIn, headIn, checksumIn, checkOf}
-use Rattle.packet.specs.Promises.{Sum, Check}
-use Rattle.packet.specs.Refusals.{numberOf}
+use Rattle.packet.specs.Promises.{Check}
+use Rattle.packet.specs.Refusals.{numberOf, causeOf}
 use Rattle.packet.specs.declared.Refusal.{Refusal}
-use Rattle.packet.specs.declared.Refusal.the-variants.{Length, Checksum, Cut}
+use Rattle.packet.specs.declared.Refusal.the-variants.{Length, Checksum, Cut, Source, Status, Opcode, Data, Beep, Setting, Barred, Start, Room}
 use Rattle.packet.specs.declared.Head.{Head}
-use Rattle.packet.specs.declared.Checked.{Checked}
 use Rattle.packet.specs.declared.Checked.the-variants.{Packet, Refused}
 use Rattle.packet.proofs.Judge.{check-right}
 use Rattle.packet.proofs.Sums.{sum-most}
@@ -101,6 +100,11 @@ pub built-found : (o s t : ℕ) (d rest : List ℕ) → Body (bodyOf o s t d) �
 unfolding bodyOf headIn
 built-found o s t d rest k = sym (sealed-check (bodyOf o s t d) rest k .is)
 
+-- The data of a body is what it was made with.
+pub data-of : (o s t : ℕ) (d : List ℕ) → dataIn (bodyOf o s t d) ≡ d
+unfolding dataIn bodyOf
+data-of o s t d = let e : length d + 4 - 4 ≡ length d = omega arith in rw e (take-length d)
+
 pub built-data : (o s t : ℕ) (d rest : List ℕ) → dataIn (seal (bodyOf o s t d) ++ rest) ≡ d
 unfolding dataIn seal bodyOf
 built-data o s t d rest =
@@ -121,10 +125,10 @@ accepted-by : (s : List ℕ) (h : Head) (a b d e : Bool) → ltb (getD s 0 0) 4 
     pick a (Refused Cut) (pick b (Refused Length) (pick d (Refused Cut) (pick e (Packet (headIn s)) (Refused Checksum)))) ≡ Packet h → Accepted s h
 accepted-by s h false false false true p q r f =
     record { head = cc; least = ltb-false (getD s 0 0) 4 p; enough = ltb-false (length s) (getD s 0 0 + 2) q; sums = eqb-true (checksumIn s) (checksumOf (bodyIn s)) r }
-accepted-by s h false false false false p q r f = absurd (let z : _≡_ {A = ℕ} 0 1 = cc in omega arith)
-accepted-by s h false false true e p q r f = absurd (let z : _≡_ {A = ℕ} 0 1 = cc in omega arith)
-accepted-by s h false true d e p q r f = absurd (let z : _≡_ {A = ℕ} 0 1 = cc in omega arith)
-accepted-by s h true b d e p q r f = absurd (let z : _≡_ {A = ℕ} 0 1 = cc in omega arith)
+accepted-by s h false false false false p q r f = never (cc)
+accepted-by s h false false true e p q r f = never (cc)
+accepted-by s h false true d e p q r f = never (cc)
+accepted-by s h true b d e p q r f = never (cc)
 
 pub accepted : (s : List ℕ) {h : Head} → checkOf s ≡ Packet h → Accepted s h
 unfolding checkOf
@@ -286,18 +290,38 @@ check-front s rest h = by (decLe 4 (getD s 0 0)) (decLe (getD s 0 0 + 2) (length
         let same : getD (s ++ rest) 0 0 ≡ getD s 0 0 = List·getD-append s rest 0 0 (omega arith) in
         low-first (s ++ rest) (λ e. some (omega arith)) (rw same (omega arith)) ∙ sym (low-first s some (omega arith))
 
--- ---- what is too short
+-- ---- what the check refuses
 
-cut-by : (s : List ℕ) (x : Refusal) (a b d e : Bool) → eqb (length s) 0 ≡ a → ltb (length s) (getD s 0 0 + 2) ≡ d →
-    pick a (Refused Cut) (pick b (Refused Length) (pick d (Refused Cut) (pick e (Packet (headIn s)) (Refused Checksum)))) ≡ Refused x → numberOf x ≡ 3 →
-    length s < getD s 0 0 + 2
-cut-by s x true b d e p q f n = let z = eqb-true (length s) 0 p in omega arith
-cut-by s x false true d e p q f n = absurd (let z : Length ≡ x = cc in let y : 1 ≡ 3 = ap numberOf z ∙ n in omega arith)
-cut-by s x false false true e p q f n = ltb-true (length s) (getD s 0 0 + 2) q
-cut-by s x false false false true p q f n = absurd (let z : _≡_ {A = ℕ} 0 1 = cc in omega arith)
-cut-by s x false false false false p q f n = absurd (let z : Checksum ≡ x = cc in let y : 2 ≡ 3 = ap numberOf z ∙ n in omega arith)
+-- It refuses by 1, 2 or 3, whose cause is 1, and by number 3 only where bytes are missing.
+pub record Turned (s : List ℕ) (x : Refusal) : Type 0 where
+  pub cause : causeOf x ≡ 1
+  pub cut : numberOf x ≡ 3 → length s < getD s 0 0 + 2
 
--- Number 3 is said only where bytes are missing.
-pub cut-short : (s : List ℕ) {x : Refusal} → checkOf s ≡ Refused x → numberOf x ≡ 3 → length s < getD s 0 0 + 2
+turned-by : (s : List ℕ) (x : Refusal) (a b d e : Bool) → eqb (length s) 0 ≡ a → ltb (length s) (getD s 0 0 + 2) ≡ d →
+    pick a (Refused Cut) (pick b (Refused Length) (pick d (Refused Cut) (pick e (Packet (headIn s)) (Refused Checksum)))) ≡ Refused x → Turned s x
+turned-by s x true b d e p q f = let z : Cut ≡ x = cc in rw (← z) (record { cause = refl; cut = λ n. let y = eqb-true (length s) 0 p in omega arith })
+turned-by s x false true d e p q f = let z : Length ≡ x = cc in rw (← z) (record { cause = refl; cut = λ n. omega arith })
+turned-by s x false false true e p q f = let z : Cut ≡ x = cc in rw (← z) (record { cause = refl; cut = λ n. ltb-true (length s) (getD s 0 0 + 2) q })
+turned-by s x false false false true p q f = never (cc)
+turned-by s x false false false false p q f = let z : Checksum ≡ x = cc in rw (← z) (record { cause = refl; cut = λ n. omega arith })
+
+pub turned : (s : List ℕ) {x : Refusal} → checkOf s ≡ Refused x → Turned s x
 unfolding checkOf
-cut-short s {x} f n = cut-by s x (eqb (length s) 0) (ltb (getD s 0 0) 4) (ltb (length s) (getD s 0 0 + 2)) (eqb (checksumIn s) (checksumOf (bodyIn s))) refl refl f n
+turned s {x} f = turned-by s x (eqb (length s) 0) (ltb (getD s 0 0) 4) (ltb (length s) (getD s 0 0 + 2)) (eqb (checksumIn s) (checksumOf (bodyIn s))) refl refl f
+
+-- ---- what is answered
+
+-- Of the refusals that a packet or an event can have, only number 13 goes unanswered.
+pub answered-number : (x : Refusal) → (causeOf x ≡ 0 → ⊥) → eqb (numberOf x) 13 ≡ false
+answered-number Length n = refl
+answered-number Checksum n = refl
+answered-number Cut n = refl
+answered-number Source n = refl
+answered-number Status n = refl
+answered-number Opcode n = refl
+answered-number Data n = refl
+answered-number Beep n = refl
+answered-number Setting n = refl
+answered-number Barred n = refl
+answered-number Start n = refl
+answered-number Room n = absurd (n refl)

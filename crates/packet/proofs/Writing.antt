@@ -1,19 +1,19 @@
 -- What the stores of header and checksum leave in the room, and how they make a packet around its data. Assumes nothing.
-use Prim.Native.Nat.{ℕ, suc, _+_, _-_, _/_, _%_, _≤_, _<_}
+use Prim.Native.Nat.{ℕ, _+_, _-_, _/_, _%_, _≤_, _<_}
 use mathlib.Core.Path.{_≡_, refl, sym, ap, _∙_}
 use mathlib.Core.List.{List, [], _∷_, _++_, append-assoc}
 use native.Mathlib.Nat.{add-comm}
 use native.Mathlib.Numerals.{add-one}
 use native.Mathlib.Omega.{arith}
-use lib.ListN.{length, getD, take, drop, set, length-append, length-take, length-drop}
-use lib.Seq.{sets-eq, length-take-le, take-append-add}
+use lib.ListN.{length, take, drop, set, length-append, length-take, length-drop}
+use lib.Seq.{sets-eq, take-append-add}
 use lib.Dec.{leb}
 use borrow.Author.Tests.{leb-true, lt-ltb, le-ltb}
 use mathlib.Core.Bool.{Bool, true, false}
-use Rattle.words.specs.Lists.{pick, both, over, overAt, Copied}
-use Rattle.words.proofs.Lists.{over-over, over-overAt, length-overAt, take-over, drop-overAt, part-over, copied-over, set-overAt}
+use Rattle.words.specs.Lists.{pick, over, overAt, Copied}
+use Rattle.words.proofs.Lists.{over-over, over-overAt, length-overAt, take-over, drop-overAt, part-over, copied-over, set-overAt, never}
 use Rattle.packet.specs.Opcodes.{cmdAck, cmdNak}
-use Rattle.packet.specs.Packet.{bodyOf, sumOf, checksumOf, seal, statusAllowed, sourceAllowed, fieldsOf, buildOf, written, replyData, replyOpcode, replyBody}
+use Rattle.packet.specs.Packet.{bodyOf, checksumOf, seal, statusAllowed, sourceAllowed, fieldsOf, buildOf, written, replyData, replyOpcode, replyBody}
 use Rattle.packet.specs.Promises.{Sum, Fields, Headed, Sealed, Build, Fill, Answer, AllowedSource}
 use Rattle.packet.specs.declared.Refusal.{Refusal}
 use Rattle.packet.specs.declared.Refusal.the-variants.{Source, Status, Data, Room}
@@ -65,9 +65,9 @@ pub record Small (n size : ℕ) : Type 0 where
 small-by : (n size : ℕ) (a b d : Bool) → leb n 251 ≡ d →
     pick a (pick b (pick d (Written (n + 6)) (Refused Data)) (Refused Status)) (Refused Source) ≡ Written size → Small n size
 small-by n size true true true e q = record { most = leb-true n 251 e; is = cc }
-small-by n size true true false e q = absurd (let z : _≡_ {A = ℕ} 0 1 = cc in omega arith)
-small-by n size true false d e q = absurd (let z : _≡_ {A = ℕ} 0 1 = cc in omega arith)
-small-by n size false b d e q = absurd (let z : _≡_ {A = ℕ} 0 1 = cc in omega arith)
+small-by n size true true false e q = never (cc)
+small-by n size true false d e q = never (cc)
+small-by n size false b d e q = never (cc)
 
 pub fields-small : {o s t n size : ℕ} {r : Built} → Fields o s t n r → r ≡ Written size → Small n size
 unfolding fieldsOf
@@ -122,7 +122,13 @@ pub build-refused : {room d : List ℕ} {o s t : ℕ} {r : Built} {x : Refusal} 
 unfolding written over
 build-refused {room} {d} {o} {s} {t} h f e = record { is = f .is ∙ sym (enough 257 room o s t (length d) h); room-is = rw e refl }
 
--- Data that was put into the room from the fifth byte on, and then filled around, is what the packet holds; nothing else is left of it.
+-- Data that was put into the room from the fifth byte on, and then sealed around, is what the packet holds; nothing else is left of it.
+pub sealed-around : (room d : List ℕ) (o s t n : ℕ) → length d + 6 ≤ length room → n ≡ length d →
+    over (seal (bodyOf o s t (take n (drop 4 (overAt 4 d room))))) (overAt 4 d room) ≡ over (seal (bodyOf o s t d)) room
+sealed-around room d o s t n h e =
+    let inside : take n (drop 4 (overAt 4 d room)) ≡ d = rw (drop-overAt 4 d room (omega arith)) (take-over d (drop 4 room) n e) in
+    rw inside (over-overAt 4 (seal (bodyOf o s t d)) d room (omega arith) (rw (length-seal (bodyOf o s t d), length-body o s t d) (omega arith)))
+
 pub filled : (room d : List ℕ) (o s t need : ℕ) {r : Built} {size : ℕ} {room₂ : List ℕ} → length d + 6 ≤ length room → need ≤ length room →
     fieldsOf o s t (length d) ≡ Written size → Fill (overAt 4 d room) o s t (length d) r room₂ →
     (r ≡ buildOf need room o s t (length d)) × (room₂ ≡ over (written r (seal (bodyOf o s t d))) room)
@@ -130,12 +136,9 @@ unfolding written
 filled room d o s t need {r} {size} {room₂} h g e f =
     let long : length (overAt 4 d room) ≡ length room = length-overAt 4 d room (omega arith) in
     let says : r ≡ fieldsOf o s t (length d) = f .is ∙ enough (length d + 6) (overAt 4 d room) o s t (length d) (omega arith) in
-    let is-written : r ≡ Written size = says ∙ e in
-    let inside : take (length d) (drop 4 (overAt 4 d room)) ≡ d = rw (drop-overAt 4 d room (omega arith)) (take-over d (drop 4 room) (length d) refl) in (
+    let is-written : r ≡ Written size = says ∙ e in (
       says ∙ sym (enough need room o s t (length d) g),
-      f .room-is
-          ∙ (rw (is-written, inside)
-          (over-overAt 4 (seal (bodyOf o s t d)) d room (omega arith) (rw (length-seal (bodyOf o s t d), length-body o s t d) (omega arith)))),
+      f .room-is ∙ rw is-written (sealed-around room d o s t (length d) h refl),
     )
 
 pub build-written : {room d part room₂ : List ℕ} {o s t size : ℕ} {r₁ r₂ : Built} → 257 ≤ length room → Fields o s t (length d) r₁ → r₁ ≡ Written size →
@@ -178,3 +181,24 @@ nak-written {room} {room₂} {s} {c} {a} {r} h p e f =
 
 pub answer-nak : {room room₂ : List ℕ} {s c : ℕ} {y : Reply} {r : Built} → y ≡ Nak c → Answer room s (Nak c) r room₂ → Answer room s y r room₂
 answer-nak e k = rw e k
+
+-- With room enough a reply from an allowed source is never refused, and its length is the packet's.
+built-reply : (room : List ℕ) (s : ℕ) (y : Reply) → sourceAllowed s ≡ true → 7 ≤ length room →
+    buildOf 7 room (replyOpcode y) s 0 (length (replyData y)) ≡ Written (length (seal (replyBody s y)))
+unfolding fieldsOf statusAllowed seal replyBody replyOpcode replyData bodyOf
+built-reply room s Ack a h = enough 7 room cmdAck s 0 0 h ∙ simp a
+built-reply room s (Nak cause) a h = enough 7 room cmdNak s 0 1 h ∙ simp a
+
+module _ {room room′ : List ℕ} {s : ℕ} {y : Reply} {r : Built} (a : sourceAllowed s ≡ true) (h : 7 ≤ length room) (k : Answer room s y r room′) where
+  pub reply-written : {n : ℕ} → r ≡ Written n → (n ≡ length (seal (replyBody s y))) × (room′ ≡ over (seal (replyBody s y)) room)
+  unfolding written
+  reply-written e =
+      let b = built-reply room s y a h in
+      let i = k .is in
+      (cc, rw e at (k .room-is))
+
+  pub reply-never : {x : Refusal} → r ≡ Refused x → ⊥
+  reply-never e =
+      let b = built-reply room s y a h in
+      let i = k .is in
+      never (cc)

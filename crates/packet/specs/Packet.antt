@@ -6,7 +6,6 @@ use lib.Dec.{eqb, ltb, leb}
 use lib.ListN.{length, getD, take, drop, set}
 use Rattle.words.specs.Lists.{pick, both, either, sameBytes}
 use Rattle.packet.specs.Opcodes.{host, reader, cmdAck, cmdNak, decodeData}
-use Rattle.packet.specs.declared.Refusal.{Refusal}
 use Rattle.packet.specs.declared.Refusal.the-variants.{Length, Checksum, Cut, Source, Status, Data, Room}
 use Rattle.packet.specs.declared.Head.{Head}
 use Rattle.packet.specs.declared.Checked.{Checked}

@@ -1,23 +1,24 @@
 -- What is heeded, which control values are taken, and the copy of the present packet: one law for each answer. The type and the piece
 -- written behind each other are one write. Assumes nothing.
-use Prim.Native.Nat.{ℕ, zero, suc, _+_, _-_, _*_, _/_, _%_, _≤_, _<_}
+use Prim.Native.Nat.{ℕ, zero, suc, _+_, _-_, _*_, _/_, _≤_, _<_}
 use mathlib.Core.Path.{_≡_, refl, sym, ap, _∙_}
 use mathlib.Core.Bool.{Bool, true, false}
 use mathlib.Core.List.{List, [], _∷_, _++_}
 use native.Mathlib.Omega.{arith}
-use lib.Dec.{eqb, leb}
+use lib.Dec.{leb}
 use lib.ListN.{length, getD, take, drop, set, length-take, length-drop, length-set}
 use lib.Seq.{take-nil, take-take, length-take-le}
 use borrow.Author.Tests.{eq-eqb, ne-eqb, le-leb, lt-leb, lt-ltb, le-ltb}
-use Rattle.words.specs.Lists.{either, over, overAt, Copied}
-use Rattle.words.proofs.Lists.{part-over, copied-over}
+use Rattle.words.specs.Lists.{over, overAt, Copied}
+use Rattle.words.proofs.Lists.{part-over, copied-over, never}
 use Rattle.packet.specs.Opcodes.{host, reader, cmdAck, cmdNak, decodeData}
-use Rattle.packet.specs.Packet.{bodyOf, seal, statusAllowed, sourceAllowed, fieldsOf, written}
+use Rattle.packet.specs.Packet.{bodyOf, seal, sourceAllowed, fieldsOf, written}
 use Rattle.packet.specs.Promises.{Fill}
 use Rattle.packet.specs.declared.Refusal.{Refusal}
 use Rattle.packet.specs.declared.Built.{Built}
 use Rattle.packet.specs.declared.Built.the-variants as built
 use Rattle.packet.proofs.Writing.{length-body, length-seal, enough, filled}
+use Rattle.packet.proofs.Judge.{status-piece}
 use Rattle.sender.specs.Sender.{heedOf}
 use Rattle.sender.specs.Promises.{Idle, Heeds, Made, Sounds, Fails, Out, Writes, Copies, madeOf, soundOf, messageOf, restOf, presentOf}
 use Rattle.sender.specs.declared.Sender.{Sender}
@@ -102,13 +103,9 @@ two-writes (suc a) x q [] h = absurd (omega arith)
 two-writes (suc a) x q (y ∷ ys) h = ap (λ (l : List ℕ). y ∷ l) (two-writes a x q ys (omega arith))
 
 -- A piece with its type may always be written: the more bit is allowed for DECODE_DATA.
-either-true : (a : Bool) → either a true ≡ true
-either-true true = refl
-either-true false = refl
-
 may : (t n : ℕ) → t < 4 → n ≤ 251 → fieldsOf decodeData reader t n ≡ built.Written (n + 6)
-unfolding fieldsOf statusAllowed sourceAllowed
-may t n h l = simp (eq-eqb (t / 4 % 2) 0 (omega arith), eq-eqb (t / 16) 0 (omega arith), either-true (eqb (t / 2 % 2) 0), le-leb n 251 l)
+unfolding fieldsOf sourceAllowed
+may t n h l = simp (status-piece t h, le-leb n 251 l)
 
 -- What was held in the room from the fifth byte on has become a packet.
 pub record Packed (held : List ℕ) (t : ℕ) (room : List ℕ) (r : Built) (room₂ : List ℕ) : Type 0 where
@@ -142,7 +139,7 @@ module _ {s : Sender} {held room room₂ : List ℕ} {t : ℕ} {r : Built} (pack
       record { is = simp (same, long); room-is = packed .room-is }
 
   pub copy-never : {x : Refusal} {g : Sending} → r ≡ built.Refused x → Writes s (bodyOf decodeData reader t held) room g room₂
-  copy-never e = absurd (let k = packed .is in let z : _≡_ {A = ℕ} 0 1 = cc in omega arith)
+  copy-never e = let k = packed .is in never (cc)
 
 -- ---- the present packet
 

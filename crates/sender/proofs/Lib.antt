@@ -1,4 +1,6 @@
 pub mod Answering
 pub mod Copying
+pub mod Cutting
+pub mod Standing
 pub mod Theorems
 pub mod Unique

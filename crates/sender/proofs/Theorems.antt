@@ -1,56 +1,34 @@
--- The laws of pieces, packets and the sender's runs, over the definitions. How a message is cut is one relation, and the laws of the
--- pieces go along it. Assumes nothing.
+-- The laws of pieces, packets and the sender's runs, over the definitions; those of the pieces go along the cut. Assumes nothing.
 use Prim.Native.Nat.{ℕ, zero, suc, _+_, _*_, _/_, _%_, _≤_, _<_}
 use mathlib.Core.Path.{_≡_, refl, sym, ap, _∙_}
 use mathlib.Core.Bool.{Bool, true, false}
 use mathlib.Core.List.{List, [], _∷_, _++_, map, flatten, append-nil}
 use native.Mathlib.Omega.{arith}
 use native.Mathlib.Decide.{decLe, ℕ-discrete}
-use lib.Dec.{eqb, ltb, leb}
+use lib.Dec.{eqb, ltb}
 use lib.ListN.{length, getD, take, drop, set, replicate, take-append-drop, length-drop, length-set}
 use lib.Seq.{length-take-le, getD-set-same, getD-set-other}
-use borrow.Author.Tests.{leb-true, leb-false, le-ltb, ltb-true}
-use Rattle.words.specs.Lists.{pick, either, Bytes}
+use borrow.Author.Tests.{le-ltb, ltb-true}
+use Rattle.words.specs.Lists.{pick, either, Bytes, Each, none, one}
 use Rattle.words.specs.Machine.{Done, after, through}
-use Rattle.words.proofs.Lists.{bytes-cons, bytes-take, bytes-drop}
+use Rattle.words.proofs.Lists.{bytes-cons, bytes-take, bytes-drop, never}
+use Rattle.words.proofs.Machine.{each-so}
 use Rattle.packet.specs.Opcodes.{reader, decodeData}
 use Rattle.packet.specs.Packet.{bodyOf, seal, headIn, checkOf, marked}
 use Rattle.packet.specs.declared.Refusal.the-variants.{Start}
 use Rattle.packet.specs.declared.Checked.the-variants.{Packet}
+use Rattle.packet.specs.declared.Refusal.{Refusal}
 use Rattle.packet.proofs.Theorems.{Body, body-of, sealed-check}
 use Rattle.packet.proofs.Writing.{length-seal}
-use Rattle.sender.specs.Pieces.{cutBy, piecesOf, bodiesOf, packetsOf}
+use Rattle.sender.specs.Pieces.{piecesOf, bodiesOf, packetsOf}
 use Rattle.sender.specs.Sender.{SenderState, nothingOut, ignores, some, waits, Sent, copy, delivered, failed, refused, begins, startStep, fails, resends, answered, senderStep}
+use Rattle.sender.specs.Promises.{nameOf}
 use Rattle.sender.specs.declared.Heard.{Heard}
 use Rattle.sender.specs.declared.Heard.the-variants.{Ack, Nak, TimeOut, Nothing}
-use Rattle.sender.proofs.Answering.{pieces-last, pieces-cut, pieces-some, bodies-more}
+use Rattle.sender.specs.declared.Outcome.the-variants as outcome
+use Rattle.sender.proofs.Cutting.{Cut, last, more, pieces-are-cut, cut-some, pieces-last, pieces-cut, bodies-more}
 
 -- ---- pieces
-
--- How a message is cut: the last piece, or 250 bytes and then the rest.
-pub data Cut : List ℕ → List (List ℕ) → Type 0 where
-  last : {m : List ℕ} → length m ≤ 250 → Cut m (m ∷ [])
-  more : {m : List ℕ} {ps : List (List ℕ)} → 250 < length m → Cut (drop 250 m) ps → Cut m (take 250 m ∷ ps)
-
-cut-by : (m : List ℕ) (ps : List (List ℕ)) (d : Bool) → leb (length m) 250 ≡ d → (250 < length m → Cut (drop 250 m) ps) → Cut m (pick d (m ∷ []) (take 250 m ∷ ps))
-cut-by m ps true e f = last (leb-true (length m) 250 e)
-cut-by m ps false e f = let h = leb-false (length m) 250 e in more h (f h)
-
-cut-is : (k : ℕ) (m : List ℕ) → length m < k * 250 + 250 → Cut m (cutBy k m)
-unfolding cutBy
-cut-is zero m h = last {m = m} (omega arith)
-cut-is (suc k) m h =
-    cut-by m (cutBy k (drop 250 m)) (leb (length m) 250) refl (λ l. cut-is k (drop 250 m) (let e = length-drop 250 m in omega arith))
-
--- A message's pieces are cut so.
-pub pieces-are-cut : (m : List ℕ) → Cut m (piecesOf m)
-unfolding piecesOf
-pieces-are-cut m = cut-is (length m / 250) m (omega arith)
-
--- Every one of a list is such.
-pub data Each (P : List ℕ → Type 0) : List (List ℕ) → Type 0 where
-  none : Each P []
-  one : {p : List ℕ} {ps : List (List ℕ)} → P p → Each P ps → Each P (p ∷ ps)
 
 -- All but the last have 250 bytes, the last at most as many.
 pub data Sized : List (List ℕ) → Type 0 where
@@ -68,7 +46,7 @@ cut-sized (more {m} h c) = exactly (length-take-le 250 m (omega arith)) (cut-siz
 
 cut-filled : {m : List ℕ} {ps : List (List ℕ)} → Cut m ps → 0 < length m → Each (λ (p : List ℕ). 0 < length p) ps
 cut-filled (last h) l = one l none
-cut-filled (more {m} h c) l = one {p = take 250 m} (let e = length-take-le 250 m (omega arith) in omega arith) (cut-filled c (let e = length-drop 250 m in omega arith))
+cut-filled (more {m} h c) l = one {x = take 250 m} (let e = length-take-le 250 m (omega arith) in omega arith) (cut-filled c (let e = length-drop 250 m in omega arith))
 
 cut-number : {m : List ℕ} {ps : List (List ℕ)} → Cut m ps → 0 < length m → length ps ≡ (length m + 249) / 250
 cut-number (last h) l = omega arith
@@ -98,6 +76,19 @@ pieces-more m h = ap length (pieces-cut m h) ∙ omega arith
 pub pieces-number : (m : List ℕ) → 0 < length m → length (piecesOf m) ≡ (length m + 249) / 250
 pieces-number m h = cut-number (pieces-are-cut m) h
 
+cut-sizes : {m : List ℕ} {ps : List (List ℕ)} (k r : ℕ) → 0 < r → r ≤ 250 → length m ≡ k * 250 + r → Cut m ps → map length ps ≡ replicate k 250 ++ (r ∷ [])
+cut-sizes zero r h l e (last {m} n) = let f : length m ≡ r = omega arith in rw f refl
+cut-sizes (suc k) r h l e (last {m} n) = absurd (omega arith)
+cut-sizes zero r h l e (more {m} n c) = absurd (omega arith)
+cut-sizes (suc k) r h l e (more {m} {ps} n c) =
+    let f = length-take-le 250 m (omega arith) in
+    let g = length-drop 250 m in
+    rw (f, cut-sizes k r h l (omega arith) c) refl
+
+-- How many bytes each piece has: 250, and in the last one the rest.
+pub pieces-sizes : (m : List ℕ) (k r : ℕ) → 0 < r → r ≤ 250 → length m ≡ k * 250 + r → map length (piecesOf m) ≡ replicate k 250 ++ (r ∷ [])
+pieces-sizes m k r h l e = cut-sizes k r h l e (pieces-are-cut m)
+
 -- Whatever can be sent has at most 17.
 pub pieces-most : (m : List ℕ) → length m ≤ 4096 → length (piecesOf m) ≤ 17
 pieces-most m h = by (decLe (length m) 0)
@@ -107,10 +98,6 @@ pieces-most m h = by (decLe (length m) 0)
     by (no z) = let e = pieces-number m (omega arith) in omega arith
 
 -- ---- packets
-
-cut-some : {m : List ℕ} {ps : List (List ℕ)} → Cut m ps → ps ≡ [] → ⊥
-cut-some (last h) e = let z : _≡_ {A = ℕ} 0 1 = cc in omega arith
-cut-some (more h c) e = let z : _≡_ {A = ℕ} 0 1 = cc in omega arith
 
 cut-packets : {m : List ℕ} {ps : List (List ℕ)} (code : ℕ) → Cut m ps → length (bodiesOf code ps) ≡ length ps
 unfolding bodiesOf
@@ -125,19 +112,18 @@ cut-bodies code k b (more {m} {ps} h c) =
     rw (bodies-more code (take 250 m) ps (cut-some c))
     (one (body-of decodeData reader 2 (code ∷ take 250 m) (omega arith) (omega arith) (omega arith) (bytes-cons k (bytes-take 250 b)) (omega arith)) (cut-bodies code k (bytes-drop 250 b) c))
 
--- A packet for each piece.
+-- A packet for each piece, so there is always one.
 pub packets-number : (code : ℕ) (m : List ℕ) → length (packetsOf code m) ≡ length (piecesOf m)
 unfolding packetsOf
 packets-number code m = cut-packets code (pieces-are-cut m)
+
+pub packets-some : (code : ℕ) (m : List ℕ) → 1 ≤ length (packetsOf code m)
+packets-some code m = rw (packets-number code m) (cut-some (pieces-are-cut m))
 
 -- Each packet is a body.
 pub packets-bodies : (code : ℕ) (m : List ℕ) → code < 256 → Bytes m → Each Body (packetsOf code m)
 unfolding packetsOf
 packets-bodies code m k b = cut-bodies code k b (pieces-are-cut m)
-
-each-so : {P Q : List ℕ → Type 0} {ps : List (List ℕ)} → ((p : List ℕ) → P p → Q p) → Each P ps → Each Q ps
-each-so f none = none
-each-so f (one {p} h k) = one (f p h) (each-so f k)
 
 -- So each is found by the check once it is sealed, whatever follows it on the line.
 pub packets-found : (code : ℕ) (m rest : List ℕ) → code < 256 → Bytes m → Each (λ (p : List ℕ). checkOf (seal p ++ rest) ≡ Packet (headIn p)) (packetsOf code m)
@@ -168,16 +154,6 @@ marked-body b k =
 
 -- ---- starts
 
-bodies-some : (code : ℕ) (ps : List (List ℕ)) → (ps ≡ [] → ⊥) → bodiesOf code ps ≡ [] → ⊥
-unfolding bodiesOf
-bodies-some code [] h e = h refl
-bodies-some code (p ∷ []) h e = let z : _≡_ {A = ℕ} 0 1 = cc in omega arith
-bodies-some code (p ∷ q ∷ ps) h e = let z : _≡_ {A = ℕ} 0 1 = cc in omega arith
-
-packets-some : (code : ℕ) (m : List ℕ) → packetsOf code m ≡ [] → ⊥
-unfolding packetsOf
-packets-some code m = bodies-some code (piecesOf m) (pieces-some m)
-
 -- A start is accepted where no message is out and this one is not too long.
 pub start-accepted : (s : SenderState) (code : ℕ) (m : List ℕ) → length m ≤ 4096 → waits s ≡ false → startStep s code m ≡ begins (packetsOf code m) s
 unfolding startStep
@@ -197,10 +173,10 @@ unfolding through after senderStep answered
 acks p [] r c f = refl
 acks p (q ∷ ps) r c f = ap (after (copy q ∷ [])) (acks q ps 0 c f)
 
-begun-acks : (q : List (List ℕ)) (s : SenderState) → (q ≡ [] → ⊥) →
+begun-acks : (q : List (List ℕ)) (s : SenderState) → 1 ≤ length q →
     after (begins q s .told) (through senderStep (begins q s .next) (replicate (length q) Ack)) ≡ record { next = nothingOut false; told = map copy q ++ (delivered 0 ∷ []) }
 unfolding begins after
-begun-acks [] s h = absurd (h refl)
+begun-acks [] s h = absurd (omega arith)
 begun-acks (p ∷ ps) s h = ap (after (copy p ∷ [])) (acks p ps 0 0 false)
 
 -- Whatever a start accepts can be sent to its end: as many ACKs as there are packets give every packet's copy in order, and then delivered with 0.
@@ -216,7 +192,7 @@ pub data Again : Heard → Type 0 where
   nak : Again (Nak 1)
   time : Again TimeOut
 
-again-step : {h : Heard} (p : List ℕ) (ps : List (List ℕ)) (s : SenderState) → Again h → answered (p ∷ ps) s h ≡ resends p s
+pub again-step : {h : Heard} (p : List ℕ) (ps : List (List ℕ)) (s : SenderState) → Again h → answered (p ∷ ps) s h ≡ resends p s
 unfolding answered
 again-step p ps s nak = refl
 again-step p ps s time = refl
@@ -248,12 +224,12 @@ twice-then-fails s e l a = twice-by s e l a
 
 kept-by : (p : List ℕ) (ps : List (List ℕ)) (s : SenderState) (d : Done SenderState Sent) → d ≡ fails s → d .next .queue ≡ p ∷ ps → d .told ≡ []
 unfolding fails
-kept-by p ps s d f e = absurd (let q = ap (λ (x : Done SenderState Sent). x .next .queue) f in let z : _≡_ {A = ℕ} 0 1 = cc in omega arith)
+kept-by p ps s d f e = let q = ap (λ (x : Done SenderState Sent). x .next .queue) f in never (cc)
 
 no-third-by : (q : List (List ℕ)) (s : SenderState) (h : Heard) → 2 ≤ s .resends → answered q s h .next .queue ≡ q → answered q s h .told ≡ []
 unfolding answered
 no-third-by [] s h l e = refl
-no-third-by (p ∷ []) s Ack l e = absurd (let z : _≡_ {A = ℕ} 0 1 = cc in omega arith)
+no-third-by (p ∷ []) s Ack l e = never (cc)
 no-third-by (p ∷ q ∷ ps) s Ack l e = absurd (let n = ap length e in omega arith)
 no-third-by (p ∷ ps) s (Nak cause) l e = kept-by p ps s (pick (eqb cause 1) (resends p s) (fails s)) (fails-now (eqb cause 1) p s l) e
 no-third-by (p ∷ ps) s TimeOut l e = kept-by p ps s (resends p s) (fails-now true p s l) e
@@ -292,7 +268,7 @@ tries-kept s h l = tries-by (s .queue) s h l
 rests-by : (q : List (List ℕ)) (s : SenderState) (h : Heard) → some q ≡ false → answered q s h ≡ ignores s
 unfolding answered some
 rests-by [] s h e = refl
-rests-by (p ∷ ps) s h e = absurd (let z : _≡_ {A = ℕ} 0 1 = cc in omega arith)
+rests-by (p ∷ ps) s h e = never (cc)
 
 -- With nothing out, everything heard does nothing.
 pub rests : (s : SenderState) (h : Heard) → waits s ≡ false → senderStep s h ≡ ignores s
@@ -372,12 +348,40 @@ counts-by (p ∷ ps) r c f (Nothing ∷ hs) k = counts-by (p ∷ ps) r c f hs k
 pub marks-counted : (s : SenderState) (hs : List Heard) → Each Plain (s .queue) → Counts (s .copies) (through senderStep s hs .told)
 marks-counted s hs k = counts-by (s .queue) (s .resends) (s .copies) (s .failed) hs k
 
-begun-counts : (q : List (List ℕ)) (s : SenderState) (hs : List Heard) → (q ≡ [] → ⊥) → Each Plain q → Counts 0 (after (begins q s .told) (through senderStep (begins q s .next) hs) .told)
+begun-counts : (q : List (List ℕ)) (s : SenderState) (hs : List Heard) → 1 ≤ length q → Each Plain q → Counts 0 (after (begins q s .told) (through senderStep (begins q s .next) hs) .told)
 unfolding begins after
-begun-counts [] s hs h k = absurd (h refl)
+begun-counts [] s hs h k = absurd (omega arith)
 begun-counts (p ∷ ps) s hs h (one l k) = plain (l .even) (marks-counted (record { queue = p ∷ ps; resends = 0; copies = 0; failed = false }) hs (one l k))
 
 -- So with a message's start the count begins at 0, and ends with the number of its marked copies.
 pub started-counts : (s : SenderState) (code : ℕ) (m : List ℕ) (hs : List Heard) → length m ≤ 4096 → waits s ≡ false →
     Counts 0 (after (startStep s code m .told) (through senderStep (startStep s code m .next) hs) .told)
 started-counts s code m hs h e = rw (start-accepted s code m h e) (begun-counts (packetsOf code m) s hs (packets-some code m) (packets-plain code m))
+
+-- ---- refusals
+
+-- What is begun is not refused, and nothing that is heard is.
+pub begun-unrefused : (q : List (List ℕ)) (s : SenderState) {x : Refusal} → nameOf (begins q s .told) ≡ outcome.Refused x → ⊥
+unfolding begins nameOf
+begun-unrefused [] s e = never (cc)
+begun-unrefused (p ∷ ps) s e = never (cc)
+
+resends-unrefused : (p : List ℕ) (s : SenderState) {x : Refusal} (b again : Bool) → ltb (s .resends) 2 ≡ b →
+    nameOf (pick again (resends p s) (fails s) .told) ≡ outcome.Refused x → ⊥
+unfolding resends fails nameOf
+resends-unrefused p s b false f e = never (cc)
+resends-unrefused p s true true f e = let k = simp f at e in never (cc)
+resends-unrefused p s false true f e = let k = simp f at e in never (cc)
+
+unrefused-by : (q : List (List ℕ)) (s : SenderState) (h : Heard) {x : Refusal} → nameOf (answered q s h .told) ≡ outcome.Refused x → ⊥
+unfolding answered nameOf
+unrefused-by [] s h e = never (cc)
+unrefused-by (p ∷ []) s Ack e = never (cc)
+unrefused-by (p ∷ q ∷ ps) s Ack e = never (cc)
+unrefused-by (p ∷ ps) s (Nak cause) e = resends-unrefused p s (ltb (s .resends) 2) (eqb cause 1) refl e
+unrefused-by (p ∷ ps) s TimeOut e = resends-unrefused p s (ltb (s .resends) 2) true refl e
+unrefused-by (p ∷ ps) s Nothing e = never (cc)
+
+pub heard-unrefused : (s : SenderState) (h : Heard) {x : Refusal} → nameOf (senderStep s h .told) ≡ outcome.Refused x → ⊥
+unfolding senderStep
+heard-unrefused s h e = unrefused-by (s .queue) s h e

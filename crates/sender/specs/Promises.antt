@@ -145,5 +145,4 @@ pub record Copies (s : Sender) (buffer : List ℕ) (mark : ℕ) (room : List ℕ
 -- One step with a message out.
 pub record Answers (s : Sender) (buffer room : List ℕ) (h : Heard) (r : Sending) (room′ : List ℕ) : Type 0 where
   pub is : r ≡ record { sender = controlAfter s h (senderStep (outOf s buffer) h); outcome = nameOf (senderStep (outOf s buffer) h .told) }
-  pub next : stateOf (r .sender) buffer ≡ senderStep (outOf s buffer) h .next
   pub room-is : room′ ≡ over (copyOf (senderStep (outOf s buffer) h .told)) room

@@ -11,7 +11,7 @@ use lib.ListN.{length, getD, take, drop, set, replicate, length-append, length-s
 use lib.Seq.{drop-cons, take-suc, take-all, length-take-le, drop-drop, sets-eq, getD-set-same, getD-set-other}
 use borrow.Author.Tests.{eq-eqb, ne-eqb, lt-ltb, le-ltb, ltb-true, eqb-true, eqb-false, not-true}
 use Rattle.words.specs.Lists.{pick, both, either, over, overAt}
-use Rattle.words.proofs.Lists.{take-over, drop-over, length-overAt, part-over, set-over, both-left, both-right}
+use Rattle.words.proofs.Lists.{length-overAt, part-over, set-over, both-left, both-right, never, either-true, over-behind}
 use Rattle.packet.specs.declared.Refusal.the-variants.{Room}
 use Rattle.table.specs.Rows.{rows, placeOf, supported}
 use Rattle.table.specs.Table.{Values, valueOf, member, askedFor, numbersOf, answeredNumbers, pairBytes, answerData}
@@ -52,12 +52,6 @@ pub two-stores : (room : List ℕ) (at a b : ℕ) → at + 2 ≤ length room →
 unfolding over overAt
 two-stores room at a b h = rw (add-one at) (sets-eq (a ∷ b ∷ []) room at h ∙ rw (drop-drop 2 at room, append-assoc) refl)
 
--- Bytes behind those that are written.
-pub over-behind : (p q room : List ℕ) (at : ℕ) → at ≡ length p → overAt at q (over p room) ≡ over (p ++ q) room
-unfolding over overAt
-over-behind p q room at e =
-    rw (take-over p room at e, drop-over p room at (omega arith), drop-drop (length q) at room, append-assoc p q, length-append p q, e) refl
-
 -- ---- pairs
 
 pub length-pairs : (t : Values) (ns : List ℕ) → length (pairBytes t ns) ≡ length ns + length ns
@@ -81,7 +75,7 @@ pub pair-behind : (values room₀ : List ℕ) (ns : List ℕ) (n at : ℕ) → a
     overAt at (n ∷ getD values (placeOf n) 0 ∷ []) (over (pairBytes (showing values) ns) room₀) ≡ over (pairBytes (showing values) (ns ++ (n ∷ []))) room₀
 unfolding pairBytes valueOf
 pair-behind values room₀ ns n at e =
-    over-behind (pairBytes (showing values) ns) (n ∷ getD values (placeOf n) 0 ∷ []) room₀ at (e ∙ sym (length-pairs (showing values) ns))
+    over-behind at (pairBytes (showing values) ns) (n ∷ getD values (placeOf n) 0 ∷ []) room₀ (length-pairs (showing values) ns ∙ sym e)
     ∙ rw (pairs-append (showing values) ns (n ∷ [])) refl
 
 -- ---- `all_pairs`
@@ -139,7 +133,7 @@ listing-all {values} {room₀} {room} {i} k h =
 pub marks-set : (seen : List Bool) (i : ℕ) → i < length seen → getD seen i false ≡ false → marks (set seen i true) ≡ marks seen + 1
 unfolding marks
 marks-set [] i h e = absurd (omega arith)
-marks-set (true ∷ bs) zero h e = absurd (let z : _≡_ {A = ℕ} 0 1 = cc in omega arith)
+marks-set (true ∷ bs) zero h e = never (cc)
 marks-set (false ∷ bs) zero h e = omega arith
 marks-set (true ∷ bs) (suc i) h e = let r = marks-set bs i (omega arith) e in omega arith
 marks-set (false ∷ bs) (suc i) h e = marks-set bs i (omega arith) e
@@ -248,10 +242,6 @@ asks-by seen sofar n m true e = simp (in-rows n ∙ e, e, m e)
 asks-by seen sofar n m false e = simp (in-rows n ∙ e, e)
 
 -- Marking one more row.
-pub either-true : (a : Bool) → either a true ≡ true
-either-true true = refl
-either-true false = refl
-
 pub either-false : (a : Bool) → either a false ≡ a
 either-false true = refl
 either-false false = refl
@@ -353,7 +343,7 @@ answer-by t asked room part ns count h a n m e =
       is = simp (y, d) (ap Bytes (omega arith));
       room-is =
           part-over 1 (length (set room 0 0xFF) - 1) q (set room 0 0xFF) part (omega arith) (omega arith) e
-          ∙ simp (y, d) (rw (set-over room 0 0xFF (omega arith)) (over-behind (0xFF ∷ []) q room 1 refl));
+          ∙ simp (y, d) (rw (set-over room 0 0xFF (omega arith)) (over-behind 1 (0xFF ∷ []) q room refl));
     }
 
 module _ {t : Table} {asked room part : List ℕ} {count : ℕ} {b : Bool} (h : 1 + (rowCount + rowCount) ≤ length room) (k : AsksAll asked b) where

@@ -10,7 +10,7 @@ use lib.ListN.{length, getD, set, replicate, length-set, length-replicate, getD-
 use lib.Seq.{getD-set-same, getD-set-other}
 use borrow.Author.Tests.{eq-eqb, ne-eqb, eqb-true, eqb-false, ltb-true, not-true, not-false}
 use Rattle.words.specs.Lists.{pick, both, either}
-use Rattle.words.proofs.Lists.{both-left, both-right, both-false}
+use Rattle.words.proofs.Lists.{both-left, both-right, both-false, never, either-true}
 use Rattle.packet.specs.declared.Refusal.{Refusal}
 use Rattle.packet.specs.declared.Refusal.the-variants.{Setting, Room}
 use Rattle.table.specs.Rows.{rows, placeIn, placeOf, supported, triggerAllowed, rangeAllowed, allowed, defaultsOf}
@@ -20,7 +20,7 @@ use Rattle.table.specs.declared.Table.{Table}
 use Rattle.table.specs.declared.Written.{Written}
 use Rattle.table.specs.declared.Written.the-variants.{Bytes, Refused}
 use Rattle.table.proofs.Finding.{rowCount, number-at, same-place, length-defaults}
-use Rattle.table.proofs.Answering.{marks-set, marks-most, marks-none, marked-by, member-append, length-pairs, either-true, either-false, either-assoc}
+use Rattle.table.proofs.Answering.{marks-set, marks-most, marks-none, marked-by, member-append, length-pairs, either-false, either-assoc}
 
 -- ---- what a list of settings changes
 
@@ -171,12 +171,12 @@ changed-allowed false ps t k a = record { present = set-all-allowed ps (t .prese
 done-by : (forever : Bool) (ps : List Pair) (t t′ : Values) → AllAllowed t → (d : Bool) → allAllowed ps ≡ d →
     pick d (done (changed forever ps t)) (refused Setting) ≡ done t′ → AllAllowed t′
 done-by forever ps t t′ k true a e = let z : changed forever ps t ≡ t′ = cc in rw z at (changed-allowed forever ps t k a)
-done-by forever ps t t′ k false a e = absurd (let z : _≡_ {A = ℕ} 0 1 = cc in omega arith)
+done-by forever ps t t′ k false a e = never (cc)
 
 -- An accepted list keeps every value of a table allowed.
 pub accepted-allowed : (forever : Bool) (reading : Reading) (t t′ : Values) → AllAllowed t → setPairs forever reading t ≡ done t′ → AllAllowed t′
 unfolding setPairs
-accepted-allowed forever wrongLength t t′ k e = absurd (let z : _≡_ {A = ℕ} 0 1 = cc in omega arith)
+accepted-allowed forever wrongLength t t′ k e = never (cc)
 accepted-allowed forever (pairs ps) t t′ k e = done-by forever ps t t′ k (allAllowed ps) refl e
 
 -- The tables that are made from the defaults by accepted lists and power-ups.
@@ -329,7 +329,7 @@ answer-most t asked =
     omega arith
 
 answered-by-room : (d : Bool) (l n : ℕ) → l ≤ 1 + 2 * length rows → pick d (Refused Room) (Bytes l) ≡ Bytes n → n ≤ 1 + 2 * length rows
-answered-by-room true l n h e = absurd (let z : _≡_ {A = ℕ} 0 1 = cc in omega arith)
+answered-by-room true l n h e = never (cc)
 answered-by-room false l n h e = let z : l ≡ n = cc in omega arith
 
 -- The same of the number of bytes that `answer` gives back, for its callers.

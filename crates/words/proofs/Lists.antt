@@ -3,17 +3,24 @@
 use Prim.Native.Nat.{ℕ, zero, suc, _+_, _-_, _<_, _≤_}
 use mathlib.Core.Path.{_≡_, refl, sym, ap, _∙_}
 use mathlib.Core.Bool.{Bool, true, false}
-use mathlib.Core.List.{List, [], _∷_, _++_, append-assoc, append-nil}
-use native.Mathlib.Nat.{not-suc-le-zero, le-of-suc-le-suc, le-antisymm}
+use mathlib.Core.List.{List, [], _∷_, _++_, append-assoc}
 use native.Mathlib.Numerals.{add-one}
 use native.Mathlib.Omega.{arith}
-use lib.Dec.{eqb, eqb·suc-suc}
-use lib.ListN.{length, getD, take, drop, set, take-append-drop, length-append, length-take, length-drop, length-set}
-use lib.Seq.{set-split, take-at, drop-at, drop-append-add, take-length, drop-length, length-take-le, drop-drop, take-all, drop-cons, take-append-le, drop-append-le}
+use lib.Dec.{eqb}
+use lib.ListN.{length, getD, take, drop, set, take-append-drop, length-append, length-take, length-drop}
+use lib.Seq.{set-split, take-at, drop-at, drop-append-add, take-length, length-take-le, drop-drop, take-all, drop-cons, take-append-le, drop-append-le}
 use borrow.Author.Tests.{eq-eqb, ne-eqb, eqb-true}
-use Rattle.words.specs.Lists.{pick, both, Bytes, over, overAt, Copied, sameBytes}
+use Rattle.words.specs.Lists.{both, Bytes, over, overAt, Copied, sameBytes, either}
 
--- ---- the choice by a test
+-- ---- contradictions and tests
+
+-- For a case that cannot be: two constructors that are equal give 0 ≡ 1.
+pub never : {A : Type 0} → _≡_ {A = ℕ} 0 1 → A
+never z = absurd (omega arith)
+
+pub either-true : (a : Bool) → either a true ≡ true
+either-true true = refl
+either-true false = refl
 
 pub both-left : (a b : Bool) → both a b ≡ true → a ≡ true
 both-left true b e = refl
@@ -166,8 +173,8 @@ same-refl (x ∷ xs) = rw (eq-eqb x x refl) (same-refl xs)
 pub same-equal : (s t : List ℕ) → sameBytes s t ≡ true → s ≡ t
 unfolding sameBytes
 same-equal [] [] e = refl
-same-equal [] (y ∷ ys) e = absurd (let z : _≡_ {A = ℕ} 0 1 = cc in omega arith)
-same-equal (x ∷ xs) [] e = absurd (let z : _≡_ {A = ℕ} 0 1 = cc in omega arith)
+same-equal [] (y ∷ ys) e = never (cc)
+same-equal (x ∷ xs) [] e = never (cc)
 same-equal (x ∷ xs) (y ∷ ys) e =
     let h = eqb-true x y (both-left (eqb x y) (sameBytes xs ys) e) in
     let t = same-equal xs ys (both-right (eqb x y) (sameBytes xs ys) e) in

@@ -1,12 +1,12 @@
 -- What the loops of `words` keep, and the laws of a turn and of the end. Assumes nothing.
 use Prim.Native.Nat.{ℕ, suc, _+_, _<_, _≤_}
 use mathlib.Core.Path.{_≡_, refl, sym, ap, _∙_}
-use mathlib.Core.Bool.{Bool, true, false}
-use mathlib.Core.List.{List, [], _∷_, _++_, append-assoc}
+use mathlib.Core.Bool.{true, false}
+use mathlib.Core.List.{List, _++_}
 use native.Mathlib.Nat.{le-antisymm}
 use native.Mathlib.Numerals.{add-one}
 use native.Mathlib.Omega.{arith}
-use lib.ListN.{length, getD, take, drop, set, length-set, length-append, length-drop, length-take}
+use lib.ListN.{length, getD, take, drop, set, length-set}
 use lib.Seq.{take-all, take-length, drop-length, length-take-le, drop-cons, take-suc, set-at, append-snoc}
 use Rattle.words.specs.Lists.{over, Over, Copied, sameBytes, Compared}
 use Rattle.words.proofs.Lists.{same-step, same-stop, other-length}

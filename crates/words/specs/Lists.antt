@@ -53,3 +53,8 @@ sameBytes (x ∷ xs) (y ∷ ys) = both (eqb x y) (sameBytes xs ys)
 -- As the promise of a comparison.
 pub record Compared (a b : List ℕ) (r : Bool) : Type 0 where
   pub is : r ≡ sameBytes a b
+
+-- Every element of a list is such.
+pub data Each {A : Type 0} (P : A → Type 0) : List A → Type 0 where
+  none : Each P []
+  one : {x : A} {xs : List A} → P x → Each P xs → Each P (x ∷ xs)

@@ -1,6 +1,5 @@
 -- `packet::answer` meets its contract: 13, then ACK or NAK. Assumes nothing.
 use native.Mathlib.Omega.{arith}
-use mathlib.Core.Path.{sym}
 use Rattle.packet.proofs.Writing.{answer-room, answer-ack, answer-nak}
 use borrow.Author.Needs.{needs}
 use Rattle.packet.proofs.answer.Statement.{statement}

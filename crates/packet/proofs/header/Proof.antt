@@ -1,5 +1,4 @@
 -- `packet::header` meets its contract: four stores. Assumes nothing.
-use mathlib.Core.Path.{refl}
 use native.Mathlib.Omega.{arith}
 use lib.ListN.{length-set}
 use Rattle.packet.proofs.Writing.{header-over}

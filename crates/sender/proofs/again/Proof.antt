@@ -1,6 +1,7 @@
 -- `sender::again` meets its contract: a marked copy, or failed. Assumes nothing.
 use native.Mathlib.Omega.{arith}
-use Rattle.sender.proofs.Answering.{again-out, again-copy, again-failed}
+use Rattle.sender.proofs.Answering.{again-copy, again-failed}
+use Rattle.sender.proofs.Standing.{again-out}
 use borrow.Author.Needs.{needs}
 use Rattle.sender.proofs.again.Statement.{statement}
 use Rattle.sender.proofs.again.Tie as tie

@@ -1,6 +1,7 @@
 -- `sender::hear` meets its contract: 13, then the answer of a sound control value. Assumes nothing.
 use native.Mathlib.Omega.{arith}
-use Rattle.sender.proofs.Answering.{hear-room, sounds-out, hear-answered, hear-nothing}
+use Rattle.sender.proofs.Answering.{hear-room, hear-answered, hear-nothing}
+use Rattle.sender.proofs.Standing.{sounds-out}
 use borrow.Author.Needs.{needs}
 use Rattle.sender.proofs.hear.Statement.{statement}
 use Rattle.sender.proofs.hear.Tie as tie

@@ -1,6 +1,7 @@
 -- `sender::onward` meets its contract: the next packet, or delivered. Assumes nothing.
 use native.Mathlib.Omega.{arith}
-use Rattle.sender.proofs.Answering.{onward-out, onward-next, onward-delivered}
+use Rattle.sender.proofs.Answering.{onward-next, onward-delivered}
+use Rattle.sender.proofs.Standing.{onward-out}
 use borrow.Author.Needs.{needs}
 use Rattle.sender.proofs.onward.Statement.{statement}
 use Rattle.sender.proofs.onward.Tie as tie
