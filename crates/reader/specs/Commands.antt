@@ -1,6 +1,6 @@
 -- Document 01, 'The reader's commands'.
 use Prim.Native.Nat.{ℕ, _%_}
-use mathlib.Core.Bool.{Bool, true, false, not}
+use mathlib.Core.Bool.{Bool, true, false}
 use mathlib.Core.List.{List, [], _∷_}
 use lib.Dec.{eqb, ltb}
 use lib.ListN.{length, getD, drop}
@@ -55,7 +55,8 @@ unfoldable pub isRead : Reading → Bool
 isRead wrongLength = false
 isRead (pairs ps) = true
 
--- PARAM_SEND: a beep byte, then pairs; PARAM_REQUEST 1 to 251; BEEP, LED_ON, LED_OFF 1; none for the others.
+-- PARAM_SEND: a beep byte, then pairs; PARAM_REQUEST 1 to 251, which is all that a packet holds; BEEP, LED_ON, LED_OFF 1; none for the
+-- others. Only known opcodes get here.
 unfoldable pub lengthAllowed : ℕ → List ℕ → Bool
 lengthAllowed o d =
     pick (eqb o paramSend) (both (ltb 0 (length d)) (isRead (readPairs (drop 1 d))))
@@ -88,7 +89,7 @@ beepCommand d bytes = pick (beepAllowed (getD bytes 0 0)) (acted d (reported (ge
 unfoldable pub ledCommand : DeviceState → Bool → List ℕ → Acted
 ledCommand d on bytes = acted (pick (eqb (getD bytes 0 0 % 2) 1) (withLed d on) d) []
 
--- START_SESSION while disabled is ACKed and starts none.
+-- START_SESSION while disabled is ACKed and starts none; a session that is on stays on.
 unfoldable pub startCommand : DeviceState → Acted
 startCommand d = acted (withSession d (either (d .session) (d .enabled))) []
 
@@ -96,6 +97,7 @@ startCommand d = acted (withSession d (either (d .session) (d .enabled))) []
 unfoldable pub scanCommand : DeviceState → Bool → Acted
 scanCommand d on = acted (record { values = d .values; enabled = on; session = both on (d .session); aim = d .aim; led = d .led }) []
 
+-- AIM_OFF is the last that is left: only known opcodes get here.
 unfoldable pub bareCommand : DeviceState → ℕ → Acted
 bareCommand d o =
     pick (eqb o paramDefaults) (acted (withValues d defaults) [])

@@ -1,3 +1,4 @@
 pub mod Beeps
 pub mod Commands
+pub mod Promises
 pub mod Reader

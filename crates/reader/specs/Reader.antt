@@ -1,18 +1,19 @@
 -- Document 01, the reader's whole end: framer, command side and sender.
 use Prim.Native.Nat.{ℕ}
-use mathlib.Core.Bool.{Bool, true, false}
+use mathlib.Core.Bool.{Bool, false}
 use mathlib.Core.List.{List, [], _∷_, _++_, map}
-use lib.Dec.{eqb}
+use lib.Dec.{eqb, leb}
 use lib.ListN.{getD}
-use Rattle.words.specs.Lists.{pick}
+use Rattle.words.specs.Lists.{pick, both}
 use Rattle.words.specs.Machine.{Done}
 use Rattle.packet.specs.Opcodes.{host, reader, paramSend, paramRequest}
 use Rattle.packet.specs.Packet.{bodyOf, seal, dataIn, statusAllowed, replyBody, unmarked, resentEqual, isAnswer}
-use Rattle.packet.specs.Refusals.{causeOf}
+use Rattle.packet.specs.Refusals.{numberOf, causeOf}
 use Rattle.packet.specs.declared.Refusal.{Refusal}
 use Rattle.packet.specs.declared.Refusal.the-variants.{Source, Status, Opcode, Data}
+use Rattle.packet.specs.declared.Reply.{Reply}
 use Rattle.packet.specs.declared.Reply.the-variants.{Ack, Nak}
-use Rattle.framer.specs.Framer.{Line, hearing, Heard, packet, refused as noPacket}
+use Rattle.framer.specs.Framer.{hearing, Heard, packet, refused as noPacket}
 use Rattle.framer.specs.Behind.{Behind, framed}
 use Rattle.framer.specs.declared.Event.{Event}
 use Rattle.sender.specs.Sender.{SenderState, nothingOut, waits, Sent, startStep, senderStep, heedOf}
@@ -44,15 +45,17 @@ unfoldable pub answering : List ℕ → List Output
 answering [] = []
 answering (b ∷ bs) = answered (b ∷ bs) ∷ []
 
--- ACK and NAK go out only if 9Fh was 1 before the packet.
+-- 9Fh is 1.
 unfoldable pub handshake : DeviceState → Bool
 handshake d = eqb (valueOf (d .values) 0x9F) 1
 
-unfoldable pub ackBytes : DeviceState → List ℕ
-ackBytes d = pick (handshake d) (seal (replyBody reader Ack)) []
+-- ACK and NAK go out only if 9Fh was 1 before the packet.
+unfoldable pub replyBytes : DeviceState → Reply → List ℕ
+replyBytes d reply = pick (handshake d) (seal (replyBody reader reply)) []
 
-unfoldable pub nakBytes : DeviceState → Refusal → List ℕ
-nakBytes d r = pick (handshake d) (seal (replyBody reader (Nak (causeOf r)))) []
+-- The NAK of a refusal that document 01 answers, 1 to 9 at a reader.
+abbrev pub nakBytes : DeviceState → Refusal → List ℕ
+nakBytes d r = replyBytes d (Nak (causeOf r))
 
 abbrev pub refuses : CoreState → Refusal → Done CoreState Output
 refuses c r = record { next = c; told = refused r ∷ answering (nakBytes (c .device) r) }
@@ -62,8 +65,11 @@ unfoldable pub noPacketStep : CoreState → Refusal → Done CoreState Output
 noPacketStep c r = pick (waits (c .sender)) (record { next = c; told = refused r ∷ [] }) (refuses c r)
 
 -- PARAM_REQUEST is answered by a PARAM_SEND, in any case; the others by ACK.
+unfoldable pub requestBytes : Values → List ℕ → List ℕ
+requestBytes v asked = seal (bodyOf paramSend reader 0 (answerData v asked))
+
 unfoldable pub answerTo : DeviceState → ℕ → List ℕ → List ℕ
-answerTo d opcode carried = pick (eqb opcode paramRequest) (seal (bodyOf paramSend reader 0 (answerData (d .values) carried))) (ackBytes d)
+answerTo d opcode carried = pick (eqb opcode paramRequest) (requestBytes (d .values) carried) (replyBytes d Ack)
 
 -- Acted on: the packet is now the last accepted one.
 unfoldable pub acts : CoreState → List ℕ → Acted → Done CoreState Output
@@ -116,6 +122,14 @@ startMessage r code m = withCore r (senderHears (r .core) (startStep (r .core .s
 unfoldable pub timeOut : ReaderState → Done ReaderState Output
 timeOut r = withCore r (senderHears (r .core) (senderStep (r .core .sender) TimeOut))
 
+-- A reader just switched on with these values: nothing begun, nothing out, no packet accepted.
+abbrev pub switchedOn : Values → ReaderState
+switchedOn v = record { line = hearing []; core = record { device = fresh v; last = []; lastAnswer = []; sender = nothingOut false } }
+
 -- Power-up copies permanent to present, clears framer and sender and forgets the last accepted packet.
 unfoldable pub powerUpReader : ReaderState → ReaderState
-powerUpReader r = record { line = hearing []; core = record { device = fresh (powerUp (r .core .device .values)); last = []; lastAnswer = []; sender = nothingOut false } }
+powerUpReader r = switchedOn (powerUp (r .core .device .values))
+
+-- The bytes that answer a refusal, for the theorems that say so: NAK with its cause, if 9Fh is 1; none for 1 to 3 while the sender waits for an answer.
+unfoldable pub refusalAnswer : CoreState → Refusal → List ℕ
+refusalAnswer c r = pick (both (leb (numberOf r) 3) (waits (c .sender))) [] (nakBytes (c .device) r)

@@ -1,0 +1,303 @@
+-- The level of the whole reader: what the framer found goes to the sender or is judged, and control value and buffers stand for the next state.
+-- Assumes nothing.
+use Prim.Native.Nat.{ℕ, _≤_, _<_}
+use mathlib.Core.Path.{_≡_, refl, sym, ap, _∙_}
+use mathlib.Core.Bool.{Bool, true, false}
+use mathlib.Core.List.{List, [], _∷_, _++_, map}
+use native.Mathlib.Omega.{arith}
+use lib.Dec.{eqb}
+use lib.ListN.{length, getD, length-take}
+use lib.Seq.{length-take-le}
+use borrow.Author.Tests.{le-leb, le-ltb, lt-ltb}
+use Rattle.words.specs.Lists.{pick, over}
+use Rattle.words.specs.Machine.{Done, through}
+use Rattle.words.proofs.Lists.{over-nil, over-take, take-over, never}
+use Rattle.words.proofs.Machine.{through-one}
+use Rattle.packet.specs.Opcodes as opcode
+use Rattle.packet.specs.Opcodes.{host, paramSend, paramRequest}
+use Rattle.packet.specs.Packet.{bodyOf, seal, dataIn, statusAllowed, replyData, replyOpcode, replyBody, unmarked, resentEqual, isAnswer}
+use Rattle.packet.specs.Promises.{IsAnswer}
+use Rattle.packet.specs.declared.Refusal.{Refusal}
+use Rattle.packet.specs.declared.Refusal.the-variants as refusal
+use Rattle.packet.specs.declared.Head.{Head}
+use Rattle.packet.specs.declared.Reply.the-variants as reply
+use Rattle.packet.proofs.Writing.{length-seal, length-body}
+use Rattle.packet.proofs.Marks.{length-unmarked, unmarked-pick}
+use Rattle.framer.specs.Framer as line
+use Rattle.framer.specs.Framer.{hearing, packet, refused as noPacket, framerStep}
+use Rattle.framer.specs.Behind.{framed}
+use Rattle.framer.specs.Halves.{lineIn, keptIn, receivedIn, acceptedOf, Listens, Received, Kept as Keeping}
+use Rattle.framer.specs.declared.Event.{Event}
+use Rattle.framer.specs.declared.Halves.{Halves}
+use Rattle.framer.specs.declared.Listened.{Listened}
+use Rattle.framer.specs.declared.Found.the-variants as found
+use Rattle.framer.proofs.TwoHalves.{kept-listened, listened-nothing, listened-refused, listened-packet, line-behind, kept-behind, control-behind}
+use Rattle.sender.specs.Sender.{SenderState, waits, Sent, answered, senderStep}
+use Rattle.sender.specs.Promises as sending
+use Rattle.sender.specs.declared.Sender.{Sender}
+use Rattle.sender.specs.declared.Heard.{Heard}
+use Rattle.sender.specs.declared.Heard.the-variants.{Ack, Nothing}
+use Rattle.sender.proofs.Standing.{control-stands}
+use Rattle.table.specs.Table.{answerData}
+use Rattle.table.proofs.Finding.{many}
+use Rattle.table.proofs.Theorems.{answer-most}
+use Rattle.reader.specs.Commands.{DeviceState, isKnown, lengthAllowed, Acted, denied, acted, command}
+use Rattle.reader.specs.Reader.{CoreState, Output, refused, repeated, beeped, switched, sent, answering, handshake, replyBytes, requestBytes, nakBytes, refuses, noPacketStep, answerTo, acts, commandStep, judgedStep, senderHears, packetStep, heardStep, readerStep}
+use Rattle.reader.specs.Promises.{toldOf, answerOf, sentOf, answeredOf, soundCore, coreOf, stateOf, accepts, acceptsName, senderHearing, heeded, senderAfter, coreAfter, readerOf, tooSmall, Steps, senderThrough, controlAfter, Hears, NoRoom, SoundCore, Leaves, Judges, Quiet, ToSender, Settles, Receives}
+use Rattle.reader.specs.declared.Core.{Core}
+use Rattle.reader.specs.declared.Stepped.{Stepped}
+use Rattle.reader.specs.declared.Reader.{Reader}
+use Rattle.reader.specs.declared.Answered.{Answered}
+
+-- ---- what a step keeps
+
+-- The longest answer is a PARAM_SEND with all parameters.
+answer-by : (a b : Bool) (d : List ℕ) → length d ≤ 19 → length (pick a (seal (bodyOf paramSend opcode.reader 0 d)) (pick b (seal (replyBody opcode.reader reply.Ack)) [])) ≤ 25
+unfolding replyBody replyOpcode replyData
+answer-by true b d h = rw (length-seal (bodyOf paramSend opcode.reader 0 d), length-body paramSend opcode.reader 0 d) (omega arith)
+answer-by false true d h = rw (length-seal (replyBody opcode.reader reply.Ack), length-body (replyOpcode reply.Ack) opcode.reader 0 []) (omega arith)
+answer-by false false d h = omega arith
+
+answer-few : (d : DeviceState) (o : ℕ) (carried : List ℕ) → length (answerTo d o carried) ≤ 25
+unfolding answerTo replyBytes requestBytes
+answer-few d o carried = answer-by (eqb o paramRequest) (handshake d) (answerData (d .values) carried) (let m = answer-most (d .values) carried in omega (arith, many))
+
+accepts-done : (rows : List (List ℕ)) (d : DeviceState) (outs : List Output) → accepts (map beeped rows ++ (switched d ∷ outs)) ≡ true
+unfolding accepts toldOf
+accepts-done [] d outs = refl
+accepts-done (row ∷ rows) d outs = refl
+
+accepts-sent : (xs : List Sent) → accepts (map sent xs) ≡ false
+unfolding accepts toldOf
+accepts-sent [] = refl
+accepts-sent (x ∷ xs) = refl
+
+left-by : (b : Bool) (c : CoreState) (x : Refusal) → accepts (pick b (record { next = c; told = refused x ∷ [] }) (refuses c x) .told) ≡ false
+unfolding accepts toldOf
+left-by true c x = refl
+left-by false c x = refl
+
+no-packet-left : (c : CoreState) (x : Refusal) → accepts (noPacketStep c x .told) ≡ false
+unfolding noPacketStep
+no-packet-left c x = left-by (waits (c .sender)) c x
+
+-- A step of the core on a body: the answer fits its buffer, the last accepted packet is the body where it was accepted, and the sender's state.
+record Kept (c : CoreState) (body : List ℕ) (sender : SenderState) (d : Done CoreState Output) : Type 0 where
+  few : length (d .next .lastAnswer) ≤ 25
+  last-is : d .next .last ≡ pick (accepts (d .told)) (unmarked body) (c .last)
+  sender-is : d .next .sender ≡ sender
+
+kept-test : {c : CoreState} {body : List ℕ} {sender : SenderState} {d d′ : Done CoreState Output} (b : Bool) → Kept c body sender d → Kept c body sender d′ →
+    Kept c body sender (pick b d d′)
+kept-test true k k′ = k
+kept-test false k k′ = k′
+
+module _ (c : CoreState) (body : List ℕ) (few : length (c .lastAnswer) ≤ 25) where
+  kept-still : (outs : List Output) → accepts outs ≡ false → Kept c body (c .sender) (record { next = c; told = outs })
+  kept-still outs e = record { few = few; last-is = simp e; sender-is = refl }
+
+  kept-refused : (x : Refusal) → Kept c body (c .sender) (refuses c x)
+  unfolding accepts toldOf
+  kept-refused x = kept-still (refused x ∷ answering (nakBytes (c .device) x)) refl
+
+  kept-no-packet : (x : Refusal) → Kept c body (c .sender) (noPacketStep c x)
+  unfolding noPacketStep accepts toldOf
+  kept-no-packet x = kept-test (waits (c .sender)) (kept-still (refused x ∷ []) refl) (kept-refused x)
+
+  kept-acts : (act : Acted) → Kept c body (c .sender) (acts c body act)
+  unfolding acts
+  kept-acts (denied x) = kept-refused x
+  kept-acts (acted d rows) =
+      let bytes : List ℕ = answerTo (c .device) (getD body 1 0) (dataIn body) in
+      record { few = answer-few (c .device) (getD body 1 0) (dataIn body); last-is = simp (accepts-done rows d (answering bytes)); sender-is = refl }
+
+  kept-judged : Kept c body (c .sender) (judgedStep c body)
+  unfolding judgedStep commandStep accepts toldOf
+  kept-judged =
+      kept-test (eqb (getD body 2 0) host)
+      (kept-test (statusAllowed (getD body 1 0) (getD body 3 0))
+      (kept-test (isKnown (getD body 1 0))
+      (kept-test (lengthAllowed (getD body 1 0) (dataIn body))
+      (kept-test (resentEqual (c .last) body) (kept-still (repeated ∷ answering (c .lastAnswer)) refl)
+      (kept-acts (command (c .device) (getD body 1 0) (getD body 3 0) (dataIn body))))
+      (kept-refused refusal.Data))
+      (kept-refused refusal.Opcode))
+      (kept-refused refusal.Status))
+      (kept-refused refusal.Source)
+
+  packet-by : (a : Bool) (d : Done SenderState Sent) → Kept c body (pick a (d .next) (c .sender)) (pick a (senderHears c d) (judgedStep c body))
+  unfolding senderHears
+  packet-by true d = record { few = few; last-is = simp (accepts-sent (d .told)); sender-is = refl }
+  packet-by false d = kept-judged
+
+  kept-packet : Kept c body (pick (isAnswer (getD body 1 0)) (senderStep (c .sender) (heeded body) .next) (c .sender)) (packetStep c body)
+  unfolding packetStep
+  kept-packet = packet-by (isAnswer (getD body 1 0)) (senderStep (c .sender) (heeded body))
+
+-- The sender's control value after a packet stands for that state of the sender.
+after-by : (s : Sender) (message : List ℕ) (h : Heard) (a : Bool) →
+    sending.stateOf (pick a (senderHearing s message h) s) message ≡ pick a (senderStep (sending.stateOf s message) h .next) (sending.stateOf s message)
+unfolding senderHearing
+after-by s message h true = control-stands s message h
+after-by s message h false = refl
+
+-- ---- `received`
+
+module _ {h : Halves} {c : Core} {n : ℕ} {line body answers message answer copy : List ℕ} {a : Bool} {s : Stepped} {r : Answered}
+    (received : Received h line n body) (p : IsAnswer (getD body 1 0) a) (settles : Settles h n s r) where
+  pub received-answer : {copy′ : List ℕ} → c .answered ≤ length answers → a ≡ true → ToSender c body message copy s copy′ →
+      Receives h c n line answers message answer copy r answers answer copy′
+  unfolding packetStep senderAfter coreOf
+  received-answer few e k =
+      record {
+        stepped = s;
+        steps = rw (← received .is) (simp (sym (p .is) ∙ e) (k .steps (keptIn h line) answers answer few));
+        settles = settles;
+      }
+
+  pub received-command : {last answers′ answer′ : List ℕ} → a ≡ false → Keeping h line last → Judges judgedStep c body last answers answer s answers′ answer′ →
+      Receives h c n line answers message answer copy r answers′ answer′ copy
+  unfolding packetStep senderAfter
+  received-command e q k = record { stepped = s; steps = rw (← received .is, ← q .is) (simp (sym (p .is) ∙ e) (k .steps message copy)); settles = settles }
+
+-- ---- one event
+
+accepts-name : (outs : List Output) → acceptsName (toldOf outs) ≡ accepts outs
+unfolding accepts
+accepts-name outs = refl
+
+-- The core and the framer's step that a control value, the buffers and an event stand for.
+abbrev coreAt : Reader → List ℕ → List ℕ → List ℕ → CoreState
+coreAt reader buffer answers message = coreOf (soundCore reader) (keptIn (reader .line) buffer) answers message
+
+abbrev framerAt : Reader → List ℕ → Event → Done line.Line line.Heard
+framerAt reader buffer e = framerStep (lineIn (reader .line) buffer) e
+
+-- What a control value and the answers' buffer stand for after a step of the core.
+core-back : (d : Done CoreState Output) (s : Sender) (last answers message : List ℕ) → length (d .next .lastAnswer) ≤ 25 → sending.stateOf s message ≡ d .next .sender →
+    coreOf (record { answered = answeredOf (length (d .next .lastAnswer)); device = coreAfter d s .device; sender = s }) last (over (d .next .lastAnswer) answers) message
+    ≡ record { device = d .next .device; last = unmarked last; lastAnswer = d .next .lastAnswer; sender = d .next .sender }
+unfolding coreOf answeredOf
+core-back d s last answers message few e =
+    simp (le-leb (length (d .next .lastAnswer)) 25 few, take-over (d .next .lastAnswer) answers (length (d .next .lastAnswer)) refl, e)
+
+-- The answer that is kept fits its buffer.
+few-kept : {reader : Reader} {c : Core} (line answers message : List ℕ) → SoundCore reader answers c → length (coreAt reader line answers message .lastAnswer) ≤ 25
+unfolding coreOf
+few-kept line answers message sound = let f = rw (sound .is) at (sound .few) in let l = sound .long in simp length-take (omega arith)
+
+module _ {reader : Reader} {line : List ℕ} {e : Event} {l : Listened} {line′ : List ℕ} (k : Listens (reader .line) line e l line′)
+    {answer copy : List ℕ} (a : 25 ≤ length answer) (b : 257 ≤ length copy) where
+  -- The core's step on what was told, d, with the control value and the buffers that it leaves.
+  settled : {d : Done CoreState Output} {n : ℕ} {s : Sender} {st : Stepped} {r : Answered} {answers message answers′ answer′ copy′ : List ℕ} →
+      through heardStep (coreAt reader line answers message) (framerAt reader line e .told) ≡ d →
+      senderThrough (reader .sender) message (framerAt reader line e .told) ≡ s →
+      Kept (coreAt reader line answers message) (receivedIn (l .halves) line′ n) (sending.stateOf s message) d →
+      n ≤ 255 →
+      (accepts (d .told) ≡ true → length (receivedIn (l .halves) line′ n) ≡ n) →
+      (accepts (d .told) ≡ true → framerAt reader line e .next ≡ hearing []) →
+      Steps d s answers answer copy st answers′ answer′ copy′ →
+      Settles (l .halves) n st r →
+      Hears reader line answers message answer copy e r line′ answers′ answer′ copy′
+  unfolding tooSmall readerStep framed stateOf controlAfter coreOf
+  settled {d} {n} {s} {st} {r} {answers} {message} t u kept h size idle steps settles =
+      let p = le-ltb (length answer) 25 a in
+      let q = le-ltb (length copy) 257 b in
+      let yes = accepts (d .told) in
+      let next : Reader = readerOf (pick yes (acceptedOf (l .halves) n) (l .halves)) (coreAfter d s) in
+      let reader-is : r .reader ≡ next =
+      ap (λ (x : Answered). x .reader) (settles .is) ∙ rw (steps .told-is, accepts-name (d .told), steps .core-is) refl in
+      let last-is : unmarked (keptIn (next .line) line′) ≡ d .next .last =
+      ap unmarked (kept-behind k yes n h) ∙ (unmarked-pick yes (receivedIn (l .halves) line′ n) (keptIn (reader .line) line) ∙ sym (kept .last-is)) in
+      let core = core-back d s (keptIn (next .line) line′) answers message (kept .few) (sym (kept .sender-is)) in
+      let long : yes ≡ true → length (d .next .last) ≡ n = λ z. rw (kept .last-is, z) (length-unmarked (receivedIn (l .halves) line′ n) ∙ size z) in
+      record {
+        is = simp (p, q)
+            (settles .is
+            ∙ rw (t, u, steps .told-is, accepts-name (d .told), steps .core-is, steps .count-is, steps .outcome-is, ← control-behind k yes n (d .next .last) long) refl);
+        next = simp (p, q) (rw (reader-is, steps .answers-is, t, line-behind k yes n idle, core, last-is) refl);
+        line-is = simp (p, q) (k .buffer-is);
+        answers-is = simp (p, q) (steps .answers-is ∙ ap (λ (x : Done CoreState Output). over (x .next .lastAnswer) answers) (sym t));
+        answer-is = simp (p, q) (steps .answer-is ∙ ap (λ (x : Done CoreState Output). over (answerOf (x .told)) answer) (sym t));
+        copy-is = simp (p, q) (steps .copy-is ∙ ap (λ (x : Done CoreState Output). over (sending.copyOf (sentOf (x .told))) copy) (sym t));
+      }
+
+  -- What the framer does not let through, and what it finds, by the control value that is taken.
+  module _ {c : Core} {answers message : List ℕ} {r : Answered} (sound : SoundCore reader answers c) where
+    pub hear-nothing : {st : Stepped} → l .found ≡ found.Nothing → Quiet c st → Settles (l .halves) 0 st r →
+        Hears reader line answers message answer copy e r line′ answers answer copy
+    unfolding through senderThrough accepts toldOf answerOf sentOf sending.nameOf sending.copyOf coreOf
+    hear-nothing {st} q quiet settles =
+        let n = answeredOf (reader .answered) in
+        let f = rw (sound .is) at (sound .few) in
+        settled {n = 0} {s = reader .sender}
+        (rw (listened-nothing k q) refl)
+        (rw (listened-nothing k q) refl)
+        (kept-still (coreAt reader line answers message) (receivedIn (l .halves) line′ 0) (few-kept line answers message sound) [] refl)
+        (omega arith)
+        (λ z. never (cc))
+        (λ z. never (cc))
+        (record {
+          told-is = rw (quiet .is) refl;
+          count-is = rw (quiet .is) refl;
+          outcome-is = rw (quiet .is) refl;
+          core-is = rw (quiet .is, sound .is, length-take-le n answers f) refl;
+          answers-is = sym (over-take n answers);
+          answer-is = sym (over-nil answer);
+          copy-is = sym (over-nil copy);
+        })
+        settles
+
+    pub hear-refused : {st : Stepped} {x : Refusal} {answer′ : List ℕ} → l .found ≡ found.Refused x → Leaves (λ (s : CoreState). noPacketStep s x) c answer st answer′ →
+        Settles (l .halves) 0 st r → Hears reader line answers message answer copy e r line′ answers answer′ copy
+    unfolding heardStep senderThrough coreOf
+    hear-refused {x = x} q leaves settles =
+        settled {n = 0} {s = reader .sender}
+        (rw (listened-refused k q) (through-one heardStep (coreAt reader line answers message) (noPacket x)))
+        (rw (listened-refused k q) refl)
+        (kept-no-packet (coreAt reader line answers message) (receivedIn (l .halves) line′ 0) (few-kept line answers message sound) x)
+        (omega arith)
+        (λ z. let y = no-packet-left (coreAt reader line answers message) x in never (cc))
+        (λ z. let y = no-packet-left (coreAt reader line answers message) x in never (cc))
+        (rw (sound .is) at (leaves .steps (keptIn (reader .line) line) answers message copy (sound .few)))
+        settles
+
+    pub hear-packet : {h : Head} {answers′ answer′ copy′ : List ℕ} → l .found ≡ found.Packet h →
+        Receives (l .halves) c (h .length) line′ answers message answer copy r answers′ answer′ copy′ →
+        Hears reader line answers message answer copy e r line′ answers′ answer′ copy′
+    unfolding heardStep senderThrough coreOf senderAfter
+    hear-packet {h} q receives =
+        let w = listened-packet k q in
+        let body : List ℕ = receivedIn (l .halves) line′ (h .length) in
+        settled {s = senderAfter (reader .sender) message body}
+        (rw (w .told-is) (through-one heardStep (coreAt reader line answers message) (packet body)))
+        (rw (w .told-is) refl)
+        (rw (after-by (reader .sender) message (heeded body) (isAnswer (getD body 1 0))) (kept-packet (coreAt reader line answers message) body (few-kept line answers message sound)))
+        (w .most)
+        (λ z. w .long)
+        (λ z. w .idle)
+        (rw (sound .is, kept-listened k) at (receives .steps))
+        (receives .settles)
+
+-- Number 13.
+hear-small : {reader : Reader} {line answers message answer copy : List ℕ} {e : Event} {r : Answered} → tooSmall answer copy ≡ true → NoRoom reader r →
+    Hears reader line answers message answer copy e r line answers answer copy
+hear-small t k =
+    record {
+      is = simp t (k .is);
+      next = simp (t, k .is);
+      line-is = simp t;
+      answers-is = simp t;
+      answer-is = simp (t, over-nil);
+      copy-is = simp (t, over-nil);
+    }
+
+pub hear-answer : {reader : Reader} {line answers message answer copy : List ℕ} {e : Event} {r : Answered} → length answer < 25 → NoRoom reader r →
+    Hears reader line answers message answer copy e r line answers answer copy
+unfolding tooSmall
+hear-answer {answer = answer} h k = hear-small (simp (lt-ltb (length answer) 25 h)) k
+
+pub hear-copy : {reader : Reader} {line answers message answer copy : List ℕ} {e : Event} {r : Answered} → 25 ≤ length answer → length copy < 257 → NoRoom reader r →
+    Hears reader line answers message answer copy e r line answers answer copy
+unfolding tooSmall
+hear-copy {answer = answer} {copy = copy} a h k = hear-small (simp (le-ltb (length answer) 25 a, lt-ltb (length copy) 257 h)) k

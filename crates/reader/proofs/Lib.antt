@@ -1,0 +1,8 @@
+pub mod Answering
+pub mod Commanding
+pub mod Hearing
+pub mod Judging
+pub mod Outcomes
+pub mod States
+pub mod Theorems
+pub mod Unique

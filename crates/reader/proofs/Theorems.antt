@@ -1,0 +1,253 @@
+-- The theorems over the reader's definitions: refusals, accepted commands, resent equals, ACK and NAK, allowed values. Assumes nothing.
+use Prim.Native.Nat.{ℕ, _+_, _/_, _%_, _≤_}
+use mathlib.Core.Path.{_≡_, refl, sym, _∙_, ap}
+use mathlib.Core.Bool.{Bool, true, false}
+use mathlib.Core.List.{List, [], _∷_, _++_, map, append-nil}
+use native.Mathlib.Omega.{arith}
+use lib.Dec.{eqb, ltb, leb}
+use lib.ListN.{getD}
+use borrow.Author.Tests.{le-ltb, le-leb, lt-leb, eq-eqb, ne-eqb, eqb-true}
+use Rattle.words.specs.Lists.{pick, both, either}
+use Rattle.words.specs.Machine.{Done, after, through}
+use Rattle.words.proofs.Lists.{same-refl, never}
+use Rattle.words.proofs.Machine.{through-one}
+use Rattle.packet.specs.Opcodes.{host}
+use Rattle.packet.specs.Packet.{bodyOf, bodyIn, dataIn, statusAllowed, resentEqual, isAnswer}
+use Rattle.packet.proofs.Theorems.{data-of}
+use Rattle.packet.specs.Refusals.{numberOf, causeOf}
+use Rattle.packet.specs.declared.Refusal.{Refusal}
+use Rattle.packet.specs.declared.Refusal.the-variants as refusal
+use Rattle.packet.proofs.Marks.{unmarked-of}
+use Rattle.framer.specs.Framer.{Line, hearing, deaf, Heard, refused as noPacket, framerStep}
+use Rattle.framer.specs.Behind.{framed}
+use Rattle.framer.specs.declared.Event.{Event}
+use Rattle.framer.proofs.Outcomes as framer
+use Rattle.framer.proofs.Outcomes.{brings}
+use Rattle.sender.specs.Sender.{Sent, waits, senderStep, heedOf}
+use Rattle.table.specs.Table.{defaults}
+use Rattle.table.proofs.Theorems.{AllAllowed, accepted-allowed, at-first, reached-allowed}
+use Rattle.reader.specs.Commands.{DeviceState, isKnown, isOneByte, isBare, lengthAllowed, denied, acted, command}
+use Rattle.reader.specs.Reader.{CoreState, ReaderState, Output, refused, repeated, beeped, switched, sent, nakBytes, refusalAnswer, refuses, noPacketStep, answering, answerTo, acts, commandStep, judgedStep, senderHears, packetStep, heardStep, readerStep, answered}
+use Rattle.reader.specs.Promises.{toldOf}
+use Rattle.reader.specs.declared.Told.the-variants as told
+use Rattle.reader.proofs.Outcomes.{Does, keeps, resets, sets, Outcome, heeds, turns, repeats, acts-on, Happens, nothing, no-packet, packet-heard, packet-outcome, event-happens}
+
+-- ---- refusals
+
+-- What is told behind a refusal, and what it leaves of the core.
+pub record Refuses (c : CoreState) (r : Refusal) (xs : List Output) (d : Done CoreState Output) : Type 0 where
+  pub core-is : d .next ≡ c
+  pub answer-is : xs ≡ answering (refusalAnswer c r)
+  pub answered-by : causeOf r ≡ 0 → ⊥
+
+-- A told list that starts with something else than a refusal starts with no refusal.
+sent-first : (ss : List Sent) {r : Refusal} {xs : List Output} {A : Type 0} → map sent ss ≡ refused r ∷ xs → A
+sent-first [] q = never (cc)
+sent-first (x ∷ ss) q = never (cc)
+
+acted-first : (rows : List (List ℕ)) (d : DeviceState) (ys : List Output) {r : Refusal} {xs : List Output} {A : Type 0} → map beeped rows ++ (switched d ∷ ys) ≡ refused r ∷ xs → A
+acted-first [] d ys q = never (cc)
+acted-first (row ∷ rows) d ys q = never (cc)
+
+same-refusal : {c : CoreState} {y r : Refusal} {xs : List Output} (late : Bool) → both (leb (numberOf y) 3) (waits (c .sender)) ≡ late → (causeOf y ≡ 0 → ⊥) →
+    refused y ∷ answering (pick late [] (nakBytes (c .device) y)) ≡ refused r ∷ xs → {d : Done CoreState Output} → d .next ≡ c → Refuses c r xs d
+unfolding refusalAnswer
+same-refusal {c} {y} {r} {xs} late l n q e =
+    let f : y ≡ r = cc in
+    let g : answering (pick late [] (nakBytes (c .device) y)) ≡ xs = cc in
+    rw (← f) (record { core-is = e; answer-is = rw l (sym g); answered-by = n })
+
+packet-refuses : {c : CoreState} {body : List ℕ} {d : Done CoreState Output} {r : Refusal} {xs : List Output} → Outcome c body d → d .told ≡ refused r ∷ xs →
+    (4 ≤ numberOf r) × Refuses c r xs d
+unfolding senderHears acts
+packet-refuses (heeds d) q = sent-first (d .told) q
+packet-refuses {c = c} {r = r} (turns {r = y} h n) q =
+    let f : y ≡ r = cc in
+    (rw (← f) h, same-refusal false (simp (lt-leb (numberOf y) 3 (omega arith))) n q refl)
+packet-refuses (repeats e) q = never (cc)
+packet-refuses (acts-on {next} {rows} k) q = acted-first rows next _ q
+
+no-packet-refuses : (c : CoreState) (y : Refusal) {r : Refusal} {xs : List Output} (b : Bool) → waits (c .sender) ≡ b → numberOf y ≤ 3 → (causeOf y ≡ 0 → ⊥) →
+    noPacketStep c y .told ≡ refused r ∷ xs → Refuses c r xs (noPacketStep c y)
+unfolding noPacketStep answering
+no-packet-refuses c y true w h n q = simp w (same-refusal true (simp (le-leb (numberOf y) 3 h, w)) n (simp w at q) refl)
+no-packet-refuses c y false w h n q = simp w (same-refusal false (simp (le-leb (numberOf y) 3 h, w)) n (simp w at q) refl)
+
+happens-refuses : {c : CoreState} {d : Done CoreState Output} {r : Refusal} {xs : List Output} → Happens c d → d .told ≡ refused r ∷ xs → Refuses c r xs d
+happens-refuses nothing q = never (cc)
+happens-refuses {c} (no-packet y h n) q = no-packet-refuses c y (waits (c .sender)) refl h n q
+happens-refuses (packet-heard body k) q = packet-refuses k q .1
+
+-- The line after a refusal.
+first-by : (c : CoreState) (y : Refusal) {r : Refusal} {xs : List Output} (b : Bool) → waits (c .sender) ≡ b → noPacketStep c y .told ≡ refused r ∷ xs → y ≡ r
+unfolding noPacketStep
+first-by c y true w q = let k = simp w at q in cc
+first-by c y false w q = let k = simp w at q in cc
+
+first : (c : CoreState) (y : Refusal) {r : Refusal} {xs : List Output} → through heardStep c (noPacket y ∷ []) .told ≡ refused r ∷ xs → y ≡ r
+unfolding heardStep
+first c y q = first-by c y (waits (c .sender)) refl (rw (through-one heardStep c (noPacket y)) at q)
+
+line-refused : (c : CoreState) {r : Refusal} {xs : List Output} {l : Line} {e : Event} {d : Done Line Heard} → framer.Brings l e d → through heardStep c (d .told) .told ≡ refused r ∷ xs →
+    d .next ≡ pick (ltb (numberOf r) 3) deaf (hearing [])
+unfolding through after heardStep
+line-refused c framer.nothing q = never (cc)
+line-refused c framer.cut q = rw (← (first c refusal.Cut q)) refl
+line-refused c framer.low q = rw (← (first c refusal.Length q)) refl
+line-refused c framer.wrong q = rw (← (first c refusal.Checksum q)) refl
+line-refused c {r} (framer.whole {got} {b} f) q =
+    let s : List ℕ = bodyIn (got ++ (b ∷ [])) in
+    let k = packet-refuses (packet-outcome c s) (sym (append-nil (packetStep c s .told)) ∙ q) .0 in
+    simp (le-ltb (numberOf r) 3 (omega arith))
+
+-- What is told by name as a refusal starts with it.
+record First (r : Refusal) (os : List Output) : Type 0 where
+  rest : List Output
+  is : os ≡ refused r ∷ rest
+
+named-first : (os : List Output) {r : Refusal} → toldOf os ≡ told.Refused r → First r os
+unfolding toldOf
+named-first [] q = never (cc)
+named-first (refused y ∷ os) {r} q = let e : y ≡ r = cc in record { rest = os; is = rw e refl }
+named-first (repeated ∷ os) q = never (cc)
+named-first (beeped row ∷ os) q = never (cc)
+named-first (switched d ∷ os) q = never (cc)
+named-first (answered bytes ∷ os) q = never (cc)
+named-first (sent y ∷ os) q = never (cc)
+
+module _ (s : ReaderState) (e : Event) {r : Refusal} {xs : List Output} (q : readerStep s e .told ≡ refused r ∷ xs) where
+  happened : Refuses (s .core) r xs (through heardStep (s .core) (framerStep (s .line) e .told))
+  unfolding readerStep framed
+  happened = happens-refuses (event-happens s e) q
+
+  -- A refusal leaves the parameters, the last accepted packet, its answer and the sender as they were. It ends the packet begun; 1 and 2 make
+  -- the framer deaf.
+  pub refusal-changes : readerStep s e .next ≡ record { line = pick (ltb (numberOf r) 3) deaf (hearing []); core = s .core }
+  unfolding readerStep framed
+  refusal-changes = rw (line-refused (s .core) (brings (s .line) e) q, happened .core-is) refl
+
+  -- Its number is one of those that are answered, so not 13.
+  pub refusal-cause : causeOf r ≡ 0 → ⊥
+  refusal-cause = happened .answered-by
+
+  -- It is answered by the NAK of its cause or not at all, and nothing else is told.
+  pub refusal-answered : xs ≡ answering (refusalAnswer (s .core) r)
+  refusal-answered = happened .answer-is
+
+-- What a caller is told by name as a refusal is that refusal with its answer, and nothing else.
+pub refusal-named : (s : ReaderState) (e : Event) {r : Refusal} → toldOf (readerStep s e .told) ≡ told.Refused r →
+    readerStep s e .told ≡ refused r ∷ answering (refusalAnswer (s .core) r)
+refusal-named s e {r} q =
+    let p = named-first (readerStep s e .told) q in
+    p .is ∙ ap (λ (xs : List Output). refused r ∷ xs) (refusal-answered s e (p .is))
+
+-- ---- commands that 4 to 7 let through
+
+-- Source, status, opcode and data length are right.
+pub record Rightful (o t : ℕ) (d : List ℕ) : Type 0 where
+  pub status : statusAllowed o t ≡ true
+  pub known : isKnown o ≡ true
+  pub fits : lengthAllowed o d ≡ true
+
+-- A command as the host sends it.
+abbrev pub commandBody : ℕ → ℕ → List ℕ → List ℕ
+commandBody o t d = bodyOf o host t d
+
+-- A command's opcode is no answer's.
+unknown-answer : (o : ℕ) (a n : Bool) → eqb o 0xD0 ≡ a → eqb o 0xD1 ≡ n → isKnown o ≡ true → either a n ≡ false
+unfolding isKnown isOneByte isBare
+unknown-answer o true n e f k = let z = rw (eqb-true o 0xD0 e) at k in never (cc)
+unknown-answer o false true e f k = let z = rw (eqb-true o 0xD1 f) at k in never (cc)
+unknown-answer o false false e f k = refl
+
+no-answer : (o : ℕ) → isKnown o ≡ true → isAnswer o ≡ false
+unfolding isAnswer
+no-answer o k = unknown-answer o (eqb o 0xD0) (eqb o 0xD1) refl refl k
+
+-- The mark is allowed wherever the packet without it is.
+marked-allowed : (o t : ℕ) → t % 2 ≡ 0 → statusAllowed o t ≡ true → statusAllowed o (t + 1) ≡ true
+unfolding statusAllowed
+marked-allowed o t e k =
+    let a : (t + 1) / 4 ≡ t / 4 = omega arith in
+    let b : (t + 1) / 16 ≡ t / 16 = omega arith in
+    let c : (t + 1) / 2 ≡ t / 2 = omega arith in
+    rw (a, b, c) k
+
+marked-bit : (o t : ℕ) (d : List ℕ) → t % 2 ≡ 0 → eqb (getD (commandBody o (t + 1) d) 3 0 % 2) 1 ≡ true
+unfolding bodyOf
+marked-bit o t d plain = eq-eqb ((t + 1) % 2) 1 (omega arith)
+
+module _ (c : CoreState) (o t : ℕ) (d : List ℕ) where
+  -- Such a packet is a resent equal or is acted on.
+  pub rightful-step : Rightful o t d → packetStep c (commandBody o t d) ≡ commandStep c (commandBody o t d)
+  unfolding packetStep judgedStep bodyOf
+  rightful-step k = simp (no-answer o (k .known), k .status, k .known, data-of o host t d, k .fits)
+
+  -- What has no mark is no repeat.
+  new-command : t % 2 ≡ 0 → commandStep c (commandBody o t d) ≡ acts c (commandBody o t d) (command (c .device) o t d)
+  unfolding commandStep resentEqual bodyOf
+  new-command plain = simp (ne-eqb (t % 2) 1 (λ z. omega arith), data-of o host t d)
+
+  module _ (k : Rightful o t d) (plain : t % 2 ≡ 0) where
+    -- Without its mark it is acted on once, and is then the last accepted packet, with the answer it had.
+    pub acted-on : {next : DeviceState} {rows : List (List ℕ)} → command (c .device) o t d ≡ acted next rows →
+        packetStep c (commandBody o t d)
+        ≡ record {
+          next = record { device = next; last = commandBody o t d; lastAnswer = answerTo (c .device) o d; sender = c .sender };
+          told = map beeped rows ++ (switched next ∷ answering (answerTo (c .device) o d));
+        }
+    unfolding acts bodyOf
+    acted-on e = rightful-step k ∙ (new-command plain ∙ simp (e, unmarked-of o host t t d plain refl, data-of o host t d))
+
+    -- Denied, it changes nothing and is answered by NAK.
+    pub denied-by : {r : Refusal} → command (c .device) o t d ≡ denied r → packetStep c (commandBody o t d) ≡ refuses c r
+    unfolding acts
+    denied-by e = rightful-step k ∙ (new-command plain ∙ simp e)
+
+-- Its marked copy is answered with the same bytes as then, or none if it had none, and nothing is acted on.
+pub answered-again : (c : CoreState) (o t : ℕ) (d : List ℕ) → Rightful o t d → t % 2 ≡ 0 → c .last ≡ commandBody o t d →
+    packetStep c (commandBody o (t + 1) d) ≡ record { next = c; told = repeated ∷ answering (c .lastAnswer) }
+unfolding commandStep resentEqual
+answered-again c o t d k plain e =
+    let right : Rightful o (t + 1) d = record { status = marked-allowed o t plain (k .status); known = k .known; fits = k .fits } in
+    rightful-step c o (t + 1) d right ∙ simp (e, marked-bit o t d plain, unmarked-of o host t (t + 1) d plain (omega arith), same-refl (commandBody o t d))
+
+-- ---- ACK and NAK
+
+-- CMD_ACK and CMD_NAK go to the sender, right or wrong: nothing is refused or answered, and the device and the last accepted packet stay.
+pub answers-heeded : (c : CoreState) (body : List ℕ) → isAnswer (getD body 1 0) ≡ true →
+    packetStep c body ≡ senderHears c (senderStep (c .sender) (heedOf (getD body 1 0) (getD body 2 0) (getD body 3 0) (dataIn body)))
+unfolding packetStep
+answers-heeded c body e = simp e
+
+-- ---- values
+
+defaults-all-allowed : AllAllowed defaults
+defaults-all-allowed = reached-allowed at-first
+
+does-allowed : {d next : DeviceState} {rows : List (List ℕ)} → Does d (acted next rows) → AllAllowed (d .values) → AllAllowed (next .values)
+does-allowed (keeps e) k = rw e k
+does-allowed (resets e) k = rw e defaults-all-allowed
+does-allowed {d} {next} (sets forever reading e) k = accepted-allowed forever reading (d .values) (next .values) k e
+
+outcome-allowed : {c : CoreState} {body : List ℕ} {d : Done CoreState Output} → Outcome c body d → AllAllowed (c .device .values) → AllAllowed (d .next .device .values)
+unfolding senderHears acts
+outcome-allowed (heeds d) k = k
+outcome-allowed (turns h n) k = k
+outcome-allowed (repeats e) k = k
+outcome-allowed (acts-on does) k = does-allowed does k
+
+no-packet-allowed : (c : CoreState) (r : Refusal) (b : Bool) → waits (c .sender) ≡ b → AllAllowed (c .device .values) → AllAllowed (noPacketStep c r .next .device .values)
+unfolding noPacketStep
+no-packet-allowed c r true w k = simp w k
+no-packet-allowed c r false w k = simp w k
+
+happens-allowed : {c : CoreState} {d : Done CoreState Output} → Happens c d → AllAllowed (c .device .values) → AllAllowed (d .next .device .values)
+happens-allowed nothing k = k
+happens-allowed {c} (no-packet r h n) k = no-packet-allowed c r (waits (c .sender)) refl k
+happens-allowed (packet-heard body o) k = outcome-allowed o k
+
+-- Whatever is heard, every value stays allowed.
+pub values-allowed : (s : ReaderState) (e : Event) → AllAllowed (s .core .device .values) → AllAllowed (readerStep s e .next .core .device .values)
+unfolding readerStep framed
+values-allowed s e k = happens-allowed (event-happens s e) k

@@ -1,0 +1,45 @@
+-- `reader::to_sender` meets its contract: what the sender heeds of the packet is a step of the sender. Assumes nothing.
+use native.Mathlib.Omega.{arith}
+use Rattle.reader.proofs.Answering.{sender-hears}
+use borrow.Author.Needs.{needs}
+use Rattle.reader.proofs.to_sender.Statement.{statement}
+use Rattle.reader.proofs.to_sender.Tie as tie
+
+shared-slice-read-heed : tie.Need-shared-slice-read-heed
+shared-slice-read-heed c = search needs
+
+shared-slice-read-heed-2 : tie.Need-shared-slice-read-heed-2
+shared-slice-read-heed-2 c = search needs
+
+shared-slice-read-heed-3 : tie.Need-shared-slice-read-heed-3
+shared-slice-read-heed-3 c = search needs
+
+data-part-requires : tie.Need-data-part-requires
+data-part-requires c κs = search needs
+
+heed-requires : tie.Need-heed-requires
+heed-requires c κs = search needs
+
+hear-requires : tie.Need-hear-requires
+hear-requires c κs = search needs
+
+same-length : tie.Need-same-length
+same-length c = search needs
+
+returns : tie.Need-returns
+returns c =
+    let i = c .before .before .before .before in
+    sender-hears (omega arith) (i .before .before .before .data-part .ensures) (i .before .before .heed .ensures) (i .hear .ensures)
+
+pub to-sender-spec : {M : Type 1} → statement M
+to-sender-spec =
+    tie.close
+    (tie.spec
+    shared-slice-read-heed
+    shared-slice-read-heed-2
+    shared-slice-read-heed-3
+    data-part-requires
+    heed-requires
+    hear-requires
+    same-length
+    returns)

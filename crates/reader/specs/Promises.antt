@@ -1,0 +1,327 @@
+-- What the reader's calls promise: what is told, the next state, the control value, and every byte of each lent buffer and room.
+use Prim.Native.Nat.{ℕ, _+_, _≤_}
+use mathlib.Core.Bool.{Bool, true, false}
+use mathlib.Core.List.{List, [], _∷_}
+use mathlib.Core.Path.{_≡_}
+use lib.Dec.{ltb, leb}
+use lib.ListN.{length, getD, take, drop}
+use Rattle.words.specs.Lists.{pick, either, over}
+use Rattle.words.specs.Machine.{Done}
+use Rattle.packet.specs.Opcodes.{reader, paramSend}
+use Rattle.packet.specs.Packet.{bodyOf, seal, dataIn, unmarked, isAnswer}
+use Rattle.packet.specs.declared.Refusal.the-variants as refusal
+use Rattle.framer.specs.Framer as Line
+use Rattle.framer.specs.Framer.{packet, refused as noPacket, framerStep}
+use Rattle.framer.specs.Halves.{lineIn, keptIn, receivedIn, idleHalves, listenedOf, bufferAfter, acceptedOf}
+use Rattle.framer.specs.declared.Halves.{Halves}
+use Rattle.framer.specs.declared.Event.{Event}
+use Rattle.sender.specs.Sender.{Sent, senderStep, heedOf}
+use Rattle.sender.specs.Promises as sending
+use Rattle.sender.specs.declared.Heard.{Heard}
+use Rattle.sender.specs.declared.Heard.the-variants.{TimeOut}
+use Rattle.sender.specs.declared.Outcome.the-variants as outcome
+use Rattle.sender.specs.declared.Sender.{Sender}
+use Rattle.sender.specs.declared.Sending.{Sending}
+use Rattle.table.specs.Table.{Values, powerUp}
+use Rattle.table.specs.Promises.{valuesOf, tableOf}
+use Rattle.table.specs.declared.Table.{Table}
+use Rattle.reader.specs.Beeps.{sendBeepAllowed}
+use Rattle.reader.specs.Commands.{DeviceState, fresh, Acted, denied, acted, isKnown, isOneByte, isBare, lengthAllowed, reported, beepCommand, ledCommand}
+use Rattle.reader.specs.Reader.{CoreState, ReaderState, Output, refused, repeated, beeped, switched, answered, sent, handshake, answerTo, packetStep, senderHears, readerStep}
+use Rattle.reader.specs.declared.Beep.{Beep}
+use Rattle.reader.specs.declared.Beep.the-variants as beep
+use Rattle.reader.specs.declared.Told.{Told}
+use Rattle.reader.specs.declared.Told.the-variants as told
+use Rattle.reader.specs.declared.Verdict.the-variants as verdict
+use Rattle.reader.specs.declared.Device.{Device}
+use Rattle.reader.specs.declared.Commanded.{Commanded}
+use Rattle.reader.specs.declared.Core.{Core}
+use Rattle.reader.specs.declared.Stepped.{Stepped}
+use Rattle.reader.specs.declared.Reader.{Reader}
+use Rattle.reader.specs.declared.Answered.{Answered}
+use Rattle.reader.specs.declared.Started.{Started}
+
+-- ---- the answers that are enums
+
+-- A row of Table 2-12 as it is reported.
+unfoldable pub beepOf : List (List ℕ) → Beep
+beepOf [] = beep.Silent
+beepOf (row ∷ rows) = beep.Row (getD row 0 0) (getD row 1 0) (getD row 2 0)
+
+unfoldable pub toldOf : List Output → Told
+toldOf [] = told.Nothing
+toldOf (refused r ∷ xs) = told.Refused r
+toldOf (repeated ∷ xs) = told.Repeated
+toldOf (beeped row ∷ xs) = told.Acted (beepOf (row ∷ []))
+toldOf (switched d ∷ xs) = told.Acted beep.Silent
+toldOf (answered bytes ∷ xs) = told.Nothing
+toldOf (sent x ∷ xs) = told.Nothing
+
+-- The bytes that go out as the answer, and what the sender gave out.
+unfoldable pub answerOf : List Output → List ℕ
+answerOf [] = []
+answerOf (refused r ∷ xs) = answerOf xs
+answerOf (repeated ∷ xs) = answerOf xs
+answerOf (beeped row ∷ xs) = answerOf xs
+answerOf (switched d ∷ xs) = answerOf xs
+answerOf (answered bytes ∷ xs) = bytes
+answerOf (sent x ∷ xs) = answerOf xs
+
+unfoldable pub sentOf : List Output → List Sent
+sentOf [] = []
+sentOf (refused r ∷ xs) = sentOf xs
+sentOf (repeated ∷ xs) = sentOf xs
+sentOf (beeped row ∷ xs) = sentOf xs
+sentOf (switched d ∷ xs) = sentOf xs
+sentOf (answered bytes ∷ xs) = sentOf xs
+sentOf (sent x ∷ xs) = x ∷ sentOf xs
+
+-- ---- what control value and buffers stand for
+
+abbrev pub deviceOf : Device → DeviceState
+deviceOf d = record { values = valuesOf (d .table); enabled = d .enabled; session = d .session; aim = d .aim; led = d .led }
+
+abbrev pub deviceFrom : DeviceState → Device
+deviceFrom d = record { table = tableOf (d .values); enabled = d .enabled; session = d .session; aim = d .aim; led = d .led }
+
+-- Any control value is taken: an answer longer than the buffer is none.
+unfoldable pub answeredOf : ℕ → ℕ
+answeredOf n = pick (leb n 25) n 0
+
+abbrev pub soundCore : Reader → Core
+soundCore r = record { answered = answeredOf (r .answered); device = r .device; sender = r .sender }
+
+unfoldable pub coreOf : Core → List ℕ → List ℕ → List ℕ → CoreState
+coreOf c last answers message = record { device = deviceOf (c .device); last = unmarked last; lastAnswer = take (c .answered) answers; sender = sending.stateOf (c .sender) message }
+
+unfoldable pub stateOf : Reader → List ℕ → List ℕ → List ℕ → ReaderState
+stateOf r line answers message = record { line = lineIn (r .line) line; core = coreOf (soundCore r) (keptIn (r .line) line) answers message }
+
+-- ---- the control value afterwards
+
+-- A command that was acted on is the last accepted packet, and stays where it was received.
+abbrev pub acceptsName : Told → Bool
+acceptsName told.Nothing = false
+acceptsName (told.Refused r) = false
+acceptsName (told.Acted b) = true
+acceptsName told.Repeated = false
+
+unfoldable pub accepts : List Output → Bool
+accepts os = acceptsName (toldOf os)
+
+-- The sender's control value after a packet.
+unfoldable pub senderHearing : Sender → List ℕ → Heard → Sender
+senderHearing s message h = sending.controlAfter (sending.soundOf s) h (senderStep (sending.stateOf s message) h)
+
+abbrev pub heeded : List ℕ → Heard
+heeded body = heedOf (getD body 1 0) (getD body 2 0) (getD body 3 0) (dataIn body)
+
+unfoldable pub senderAfter : Sender → List ℕ → List ℕ → Sender
+senderAfter s message body = pick (isAnswer (getD body 1 0)) (senderHearing s message (heeded body)) s
+
+abbrev pub coreAfter : Done CoreState Output → Sender → Core
+coreAfter d s = record { answered = length (d .next .lastAnswer); device = deviceFrom (d .next .device); sender = s }
+
+abbrev pub readerOf : Halves → Core → Reader
+readerOf h c = record { line = h; answered = c .answered; device = c .device; sender = c .sender }
+
+-- ---- promises
+
+abbrev pub onControl : Values → Reader
+onControl v = record { line = idleHalves; answered = 0; device = deviceFrom (fresh v); sender = sending.idleControl false }
+
+pub record SwitchedOn (t : Table) (r : Reader) : Type 0 where
+  pub is : r ≡ onControl (powerUp (valuesOf t))
+
+pub record PowersUp (reader r : Reader) : Type 0 where
+  pub is : r ≡ onControl (powerUp (valuesOf (reader .device .table)))
+
+-- Number 13 is tested first, and the event is then not taken: 25 bytes for answers, 257 for copies.
+unfoldable pub tooSmall : List ℕ → List ℕ → Bool
+tooSmall answer copy = either (ltb (length answer) 25) (ltb (length copy) 257)
+
+-- What a step d of the core leaves: what is told, the control value with the sender s′, and every buffer.
+pub record Steps (d : Done CoreState Output) (s′ : Sender) (answers answer copy : List ℕ) (r : Stepped) (answers′ answer′ copy′ : List ℕ) : Type 0 where
+  pub told-is : r .told ≡ toldOf (d .told)
+  pub count-is : r .answer ≡ length (answerOf (d .told))
+  pub outcome-is : r .outcome ≡ sending.nameOf (sentOf (d .told))
+  pub core-is : r .core ≡ coreAfter d s′
+  pub answers-is : answers′ ≡ over (d .next .lastAnswer) answers
+  pub answer-is : answer′ ≡ over (answerOf (d .told)) answer
+  pub copy-is : copy′ ≡ over (sending.copyOf (sentOf (d .told))) copy
+
+-- The sender hears only what the framer lets through.
+unfoldable pub senderThrough : Sender → List ℕ → List Line.Heard → Sender
+senderThrough s message [] = s
+senderThrough s message (packet body ∷ hs) = senderAfter s message body
+senderThrough s message (noPacket r ∷ hs) = s
+
+unfoldable pub controlAfter : Reader → List ℕ → List ℕ → Event → Done ReaderState Output → Reader
+controlAfter reader line message e d =
+    record {
+      line = pick (accepts (d .told)) (acceptedOf (listenedOf (reader .line) line e .halves) (length (d .next .core .last))) (listenedOf (reader .line) line e .halves);
+      answered = length (d .next .core .lastAnswer);
+      device = deviceFrom (d .next .core .device);
+      sender = senderThrough (reader .sender) message (framerStep (lineIn (reader .line) line) e .told);
+    }
+
+pub record Hears (reader : Reader) (line answers message answer copy : List ℕ) (e : Event) (r : Answered) (line′ answers′ answer′ copy′ : List ℕ) : Type 0 where
+  pub is :
+      r
+      ≡ pick (tooSmall answer copy) (record { reader = reader; told = told.Refused refusal.Room; answer = 0; outcome = outcome.Nothing })
+      (record {
+        reader = controlAfter reader line message e (readerStep (stateOf reader line answers message) e);
+        told = toldOf (readerStep (stateOf reader line answers message) e .told);
+        answer = length (answerOf (readerStep (stateOf reader line answers message) e .told));
+        outcome = sending.nameOf (sentOf (readerStep (stateOf reader line answers message) e .told));
+      })
+  pub next : stateOf (r .reader) line′ answers′ message ≡ pick (tooSmall answer copy) (stateOf reader line answers message) (readerStep (stateOf reader line answers message) e .next)
+  pub line-is : line′ ≡ pick (tooSmall answer copy) line (bufferAfter (reader .line) line e)
+  pub answers-is : answers′ ≡ pick (tooSmall answer copy) answers (over (readerStep (stateOf reader line answers message) e .next .core .lastAnswer) answers)
+  pub answer-is : answer′ ≡ over (pick (tooSmall answer copy) [] (answerOf (readerStep (stateOf reader line answers message) e .told))) answer
+  pub copy-is : copy′ ≡ over (pick (tooSmall answer copy) [] (sending.copyOf (sentOf (readerStep (stateOf reader line answers message) e .told)))) copy
+
+-- A start and a time-out are the sender's; nothing else of the reader changes.
+abbrev pub withSender : Reader → Sender → Reader
+withSender reader s = record { line = reader .line; answered = reader .answered; device = reader .device; sender = s }
+
+pub record Starts (reader : Reader) (message copy : List ℕ) (code : ℕ) (bytes : List ℕ) (r : Started) (message′ copy′ : List ℕ) : Type 0 where
+  pub sending′ : Sending
+  pub starts : sending.Starts (reader .sender) message copy code bytes sending′ message′ copy′
+  pub is : r ≡ record { reader = withSender reader (sending′ .sender); outcome = sending′ .outcome }
+
+pub record TimesOut (reader : Reader) (message copy : List ℕ) (r : Started) (copy′ : List ℕ) : Type 0 where
+  pub sending′ : Sending
+  pub hears : sending.Hears (reader .sender) message copy TimeOut sending′ copy′
+  pub is : r ≡ record { reader = withSender reader (sending′ .sender); outcome = sending′ .outcome }
+
+-- ---- the functions inside, each against its own level of the definition
+
+pub record NoRoom (reader : Reader) (r : Answered) : Type 0 where
+  pub is : r ≡ record { reader = reader; told = told.Refused refusal.Room; answer = 0; outcome = outcome.Nothing }
+
+pub record SoundCore (reader : Reader) (answers : List ℕ) (r : Core) : Type 0 where
+  pub is : r ≡ soundCore reader
+  pub long : length answers ≡ 25
+  pub few : r .answered ≤ length answers
+
+pub record Handshake (d : Device) (r : Bool) : Type 0 where
+  pub is : r ≡ handshake (deviceOf d)
+
+-- So many bytes, and these at the front of the answer room.
+pub record Writes (bytes answer : List ℕ) (r : ℕ) (answer′ : List ℕ) : Type 0 where
+  pub is : r ≡ length bytes
+  pub most : r ≤ 25
+  pub answer-is : answer′ ≡ over bytes answer
+
+pub record IsKnown (opcode : ℕ) (r : Bool) : Type 0 where
+  pub is : r ≡ isKnown opcode
+
+pub record LengthAllowed (opcode : ℕ) (carried : List ℕ) (r : Bool) : Type 0 where
+  pub is : r ≡ lengthAllowed opcode carried
+
+pub record IsOneByte (opcode : ℕ) (r : Bool) : Type 0 where
+  pub is : r ≡ isOneByte opcode
+
+pub record IsBare (opcode : ℕ) (r : Bool) : Type 0 where
+  pub is : r ≡ isBare opcode
+
+pub record SendBeepAllowed (code : ℕ) (r : Bool) : Type 0 where
+  pub is : r ≡ sendBeepAllowed code
+
+pub record Reports (code : ℕ) (r : Beep) : Type 0 where
+  pub is : r ≡ beepOf (reported code)
+
+pub record WithTable (d : Device) (t : Table) (r : Device) : Type 0 where
+  pub is : r ≡ record { table = t; enabled = d .enabled; session = d .session; aim = d .aim; led = d .led }
+
+pub record WithSession (d : Device) (s : Bool) (r : Device) : Type 0 where
+  pub is : r ≡ record { table = d .table; enabled = d .enabled; session = s; aim = d .aim; led = d .led }
+
+pub record WithScanning (d : Device) (on s : Bool) (r : Device) : Type 0 where
+  pub is : r ≡ record { table = d .table; enabled = on; session = s; aim = d .aim; led = d .led }
+
+pub record WithAim (d : Device) (a : Bool) (r : Device) : Type 0 where
+  pub is : r ≡ record { table = d .table; enabled = d .enabled; session = d .session; aim = a; led = d .led }
+
+pub record WithLed (d : Device) (l : Bool) (r : Device) : Type 0 where
+  pub is : r ≡ record { table = d .table; enabled = d .enabled; session = d .session; aim = d .aim; led = l }
+
+-- The data has a length that the opcode takes.
+pub record Fit (opcode : ℕ) (carried : List ℕ) : Type 0 where
+  pub is : lengthAllowed opcode carried ≡ true
+
+-- What a command did.
+unfoldable pub commandedOf : Device → Acted → Commanded
+commandedOf d (denied r) = record { device = d; verdict = verdict.Denied r }
+commandedOf d (acted next rows) = record { device = deviceFrom next; verdict = verdict.Done (beepOf rows) }
+
+pub record Commands (d : Device) (act : Acted) (r : Commanded) : Type 0 where
+  pub is : r ≡ commandedOf d act
+
+pub record Sounds (d : Device) (code : ℕ) (r : Commanded) : Type 0 where
+  pub is : r ≡ commandedOf d (beepCommand (deviceOf d) (code ∷ []))
+
+pub record Lights (d : Device) (on : Bool) (bits : ℕ) (r : Commanded) : Type 0 where
+  pub is : r ≡ commandedOf d (ledCommand (deviceOf d) on (bits ∷ []))
+
+pub record Quiet (c : Core) (r : Stepped) : Type 0 where
+  pub is : r ≡ record { core = c; told = told.Nothing; answer = 0; outcome = outcome.Nothing }
+
+pub record Joined (h : Halves) (s : Stepped) (r : Answered) : Type 0 where
+  pub is : r ≡ record { reader = readerOf h (s .core); told = s .told; answer = s .answer; outcome = s .outcome }
+
+pub record Accepts (t : Told) (r : Bool) : Type 0 where
+  pub is : r ≡ acceptsName t
+
+-- The data, count bytes, already stands in the room from the fifth byte on.
+pub record Filled (count : ℕ) (answer : List ℕ) (r : ℕ) (answer′ : List ℕ) : Type 0 where
+  pub is : r ≡ count + 6
+  pub answer-is : answer′ ≡ over (seal (bodyOf paramSend reader 0 (take count (drop 4 answer)))) answer
+
+-- A step that looks at device and sender alone, and leaves the kept answer and the copy room as they are.
+pub record Leaves (step : CoreState → Done CoreState Output) (c : Core) (answer : List ℕ) (r : Stepped) (answer′ : List ℕ) : Type 0 where
+  pub steps : (last answers message copy : List ℕ) → c .answered ≤ length answers → Steps (step (coreOf c last answers message)) (c .sender) answers answer copy r answers answer′ copy
+
+-- A step on a command's body: the copy room and the sender's message are not looked at.
+pub record Judges (step : CoreState → List ℕ → Done CoreState Output) (c : Core) (body last answers answer : List ℕ) (r : Stepped) (answers′ answer′ : List ℕ) : Type 0 where
+  pub steps : (message copy : List ℕ) → Steps (step (coreOf c last answers message) body) (c .sender) answers answer copy r answers′ answer′ copy
+
+pub record ToSender (c : Core) (body message copy : List ℕ) (r : Stepped) (copy′ : List ℕ) : Type 0 where
+  pub steps :
+      (last answers answer : List ℕ) →
+      c .answered ≤ length answers →
+      Steps (senderHears (coreOf c last answers message) (senderStep (sending.stateOf (c .sender) message) (heeded body))) (senderHearing (c .sender) message (heeded body)) answers answer copy r answers answer copy′
+
+pub record Again (c : Core) (answers answer : List ℕ) (r : Stepped) (answer′ : List ℕ) : Type 0 where
+  pub is : r ≡ record { core = c; told = told.Repeated; answer = c .answered; outcome = outcome.Nothing }
+  pub answer-is : answer′ ≡ over (take (c .answered) answers) answer
+
+pub record Acts (c : Core) (next : Device) (b : Beep) (opcode : ℕ) (carried answers answer : List ℕ) (r : Stepped) (answers′ answer′ : List ℕ) : Type 0 where
+  pub is :
+      r
+      ≡ record {
+        core = record { answered = length (answerTo (deviceOf (c .device)) opcode carried); device = next; sender = c .sender };
+        told = told.Acted b;
+        answer = length (answerTo (deviceOf (c .device)) opcode carried);
+        outcome = outcome.Nothing;
+      }
+  pub answers-is : answers′ ≡ over (answerTo (deviceOf (c .device)) opcode carried) answers
+  pub answer-is : answer′ ≡ over (answerTo (deviceOf (c .device)) opcode carried) answer
+
+pub record Settles (h : Halves) (n : ℕ) (s : Stepped) (r : Answered) : Type 0 where
+  pub is :
+      r
+      ≡ record {
+        reader = readerOf (pick (acceptsName (s .told)) (acceptedOf h n) h) (s .core);
+        told = s .told;
+        answer = s .answer;
+        outcome = s .outcome;
+      }
+
+-- A packet of n bytes in the half that receives.
+pub record Receives (h : Halves) (c : Core) (n : ℕ) (line answers message answer copy : List ℕ) (r : Answered) (answers′ answer′ copy′ : List ℕ) : Type 0 where
+  pub stepped : Stepped
+  pub steps :
+      Steps (packetStep (coreOf c (keptIn h line) answers message) (receivedIn h line n)) (senderAfter (c .sender) message (receivedIn h line n)) answers answer copy stepped answers′ answer′ copy′
+  pub settles : Settles h n stepped r
