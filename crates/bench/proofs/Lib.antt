@@ -1,1 +1,14 @@
+pub mod Arriving
+pub mod Carrying
+pub mod Cases
+pub mod Demand1
+pub mod Demand3
+pub mod Growing
+pub mod Hearing
+pub mod Opening
+pub mod Rounds
+pub mod Standing
+pub mod Starting
+pub mod Stories
+pub mod Trying
 pub mod Whole

@@ -1,75 +1,35 @@
 -- The law that ties both ends: the packets of any message, fed whole to a hub at rest, are acknowledged one by one, and the hub hands
--- out exactly that message. A run behind a framer is the framer's run, then the machine's; pieces go along the cut. Assumes nothing.
+-- out exactly that message. Pieces go along the cut. Assumes nothing.
 use Prim.Native.Nat.{ℕ, zero, suc, _+_, _-_, _/_, _%_, _≤_, _<_}
 use mathlib.Core.Path.{_≡_, refl, sym, ap, _∙_}
-use mathlib.Core.Bool.{Bool, true, false}
+use mathlib.Core.Bool.{false}
 use mathlib.Core.List.{List, [], _∷_, _++_, map, flatMap, append-assoc}
 use native.Mathlib.Omega.{arith}
-use lib.Dec.{eqb}
 use lib.ListN.{length, getD, take, drop, replicate, take-append-drop, length-append, length-drop}
-use lib.Seq.{length-take-le, take-length}
-use borrow.Author.Tests.{eq-eqb, ne-eqb, le-ltb}
-use Rattle.words.specs.Lists.{either, Bytes}
+use lib.Seq.{length-take-le}
+use borrow.Author.Tests.{eq-eqb, ne-eqb}
+use Rattle.words.specs.Lists.{Bytes, Each, none as no-body, one}
 use Rattle.words.specs.Machine.{Done, after, through}
 use Rattle.words.proofs.Machine.{through-append, through-one}
 use Rattle.packet.specs.Opcodes.{host, reader, decodeData}
-use Rattle.packet.specs.Packet.{bodyOf, seal, dataIn, statusAllowed, replyBody, unmarked, resentEqual, isAnswer}
+use Rattle.packet.specs.Packet.{bodyOf, seal, replyBody, unmarked, resentEqual}
 use Rattle.packet.specs.declared.Reply.the-variants.{Ack}
-use Rattle.packet.proofs.Theorems.{Body}
-use Rattle.framer.specs.Framer.{hearing, Heard, packet, atGap, framerStep}
-use Rattle.framer.specs.Behind.{Behind, framed}
+use Rattle.packet.proofs.Theorems.{Body, data-of}
+use Rattle.framer.specs.Framer.{hearing, packet, atGap, framerStep}
 use Rattle.framer.specs.declared.Event.{Event}
 use Rattle.framer.specs.declared.Event.the-variants.{Byte, CharacterGap}
 use Rattle.framer.proofs.Theorems.{packet-found}
 use Rattle.framer.proofs.Behind.{framed-run}
-use Rattle.hub.specs.Joiner.{none, some, Joiner, Output, added, handed, typeIn, pieceIn, otherType, bytesOf, joined, adding, joinStep}
-use Rattle.hub.specs.Hub.{HubState, switchedOn, decodeStep, packetStep, heardStep, cleared, hubStep, answerBytes}
+use Rattle.hub.specs.Joiner.{none, some, Joiner, Output, added, handed, typeIn, pieceIn, otherType, bytesOf, joined}
+use Rattle.hub.specs.Hub.{HubState, switchedOn, packetStep, heardStep, hubStep, answerBytes}
+use Rattle.hub.proofs.Calm.{Calm, ends, gap, calm-append, calm-bytes, calm-run, heard-packets}
+use Rattle.hub.proofs.Theorems.{piece-decodes, piece-joined}
 use Rattle.sender.specs.Pieces.{bodiesOf, packetsOf}
-use Rattle.sender.proofs.Answering.{bodies-more}
-use Rattle.sender.proofs.Theorems.{Cut, last, more, pieces-are-cut, Each, none as no-body, one, packets-bodies, packets-number}
+use Rattle.sender.proofs.Cutting.{Cut, last, more, pieces-are-cut, cut-some, bodies-more}
+use Rattle.sender.proofs.Theorems.{packets-bodies, packets-number, packets-some}
 use Rattle.bench.specs.Whole.{copyThen, copiesOf, closeCopiesOf, Rests, wholeTold, TakesIn}
 
--- ---- the data of a body
-
-pub data-body : (o s t : ℕ) (d : List ℕ) → dataIn (bodyOf o s t d) ≡ d
-unfolding dataIn bodyOf
-data-body o s t d = let e : length d + 4 - 4 ≡ length d = omega arith in rw e (take-length d)
-
--- ---- the hub's line
-
--- Bytes and character gaps only.
-pub data Calm : List Event → Type 0 where
-  ends : Calm []
-  byte : {b : ℕ} {es : List Event} → Calm es → Calm (Byte b ∷ es)
-  gap : {es : List Event} → Calm es → Calm (CharacterGap ∷ es)
-
-calm-append : {es fs : List Event} → Calm es → Calm fs → Calm (es ++ fs)
-calm-append ends d = d
-calm-append (byte c) d = byte (calm-append c d)
-calm-append (gap c) d = gap (calm-append c d)
-
-calm-bytes : (s : List ℕ) → Calm (map Byte s)
-calm-bytes [] = ends
-calm-bytes (x ∷ s) = byte (calm-bytes s)
-
--- Without a message gap the hub is no more than its joiner behind the framer.
-pub calm-run : {es : List Event} (hub : HubState) → Calm es → through hubStep hub es ≡ through (framed heardStep) hub es
-unfolding through hubStep cleared
-calm-run hub ends = refl
-calm-run hub (byte {b} c) = ap (after (framed heardStep hub (Byte b) .told)) (calm-run (framed heardStep hub (Byte b) .next) c)
-calm-run hub (gap c) = ap (after (framed heardStep hub CharacterGap .told)) (calm-run (framed heardStep hub CharacterGap .next) c)
-
--- Behind the framer a packet is a packet's step.
-heard-packets : (j : Joiner) (ps : List (List ℕ)) → through heardStep j (map packet ps) ≡ through packetStep j ps
-unfolding through heardStep
-heard-packets j [] = refl
-heard-packets j (p ∷ ps) = ap (after (packetStep j p .told)) (heard-packets (packetStep j p .next) ps)
-
 -- ---- one packet of a message at the hub
-
-either-true : (a : Bool) → either a true ≡ true
-either-true true = refl
-either-true false = refl
 
 -- A packet of a message, with this status.
 abbrev pub pieceBody : ℕ → ℕ → List ℕ → List ℕ
@@ -82,11 +42,11 @@ module _ (t code : ℕ) (p : List ℕ) where
 
   type-in : typeIn (pieceBody t code p) ≡ code
   unfolding typeIn
-  type-in = rw (data-body decodeData reader t (code ∷ p)) refl
+  type-in = rw (data-of decodeData reader t (code ∷ p)) refl
 
   piece-in : pieceIn (pieceBody t code p) ≡ p
   unfolding pieceIn
-  piece-in = rw (data-body decodeData reader t (code ∷ p)) refl
+  piece-in = rw (data-of decodeData reader t (code ∷ p)) refl
 
 -- The joiner has room for so many bytes of this type.
 pub record Takes (j : Joiner) (code n : ℕ) : Type 0 where
@@ -104,43 +64,26 @@ module _ (j : Joiner) (t code : ℕ) (p : List ℕ) where
   unfolding resentEqual bodyOf
   no-repeat e = simp (ne-eqb (t % 2) 1 (λ z. omega arith))
 
-  piece-decoded : t < 4 → packetStep j (pieceBody t code p) ≡ decodeStep j (pieceBody t code p)
-  unfolding packetStep isAnswer statusAllowed bodyOf
-  piece-decoded h = simp (eq-eqb (t / 4 % 2) 0 (omega arith), eq-eqb (t / 16) 0 (omega arith), either-true (eqb (t / 2 % 2) 0))
-
-  piece-some : decodeStep j (pieceBody t code p) ≡ joinStep j (pieceBody t code p)
-  unfolding decodeStep
-  piece-some = simp (data-body decodeData reader t (code ∷ p), ne-eqb (length (code ∷ p)) 0 (λ z. omega arith))
-
-  piece-new : j .barred ≡ false → resentEqual (j .last) (pieceBody t code p) ≡ false → joinStep j (pieceBody t code p) ≡ adding j (pieceBody t code p)
-  unfolding joinStep
-  piece-new e r = simp (e, r)
-
-  piece-fits : Takes j code (length p) → adding j (pieceBody t code p) ≡ joined j (pieceBody t code p)
-  unfolding adding
-  piece-fits k = simp (type-in t code p, piece-in t code p, k .same, le-ltb 4096 (length (bytesOf (j .gathered)) + length p) (k .fits))
-
   -- What is no repeat, and has room, is joined.
-  pub piece-joined : t < 4 → resentEqual (j .last) (pieceBody t code p) ≡ false → Takes j code (length p) →
-      packetStep j (pieceBody t code p) ≡ joined j (pieceBody t code p)
-  piece-joined h r k = piece-decoded h ∙ (piece-some ∙ (piece-new (k .free) r ∙ piece-fits k))
+  taken : t < 4 → resentEqual (j .last) (pieceBody t code p) ≡ false → Takes j code (length p) → packetStep j (pieceBody t code p) ≡ joined j (pieceBody t code p)
+  taken h r k = piece-joined j (k .free) (piece-decodes t code p h) r (rw (type-in t code p) (k .same)) (rw (piece-in t code p) (k .fits))
 
   -- With the more bit it is added; without it, it ends the message, which is handed out.
   module _ (r : resentEqual (j .last) (pieceBody t code p) ≡ false) (k : Takes j code (length p)) where
     pub piece-added : t / 2 ≡ 1 → packetStep j (pieceBody t code p) ≡ record { next = withPiece j t code p; told = added ∷ [] }
     unfolding joined
-    piece-added e = piece-joined (omega arith) r k ∙ simp (status-in t code p, ne-eqb (t / 2 % 2) 0 (λ z. omega arith), type-in t code p, piece-in t code p)
+    piece-added e = taken (omega arith) r k ∙ simp (status-in t code p, ne-eqb (t / 2 % 2) 0 (λ z. omega arith), type-in t code p, piece-in t code p)
 
     pub piece-handed : t / 2 ≡ 0 →
         packetStep j (pieceBody t code p)
         ≡ record { next = record { barred = false; last = unmarked (pieceBody t code p); gathered = none }; told = handed code (bytesOf (j .gathered) ++ p) ∷ [] }
     unfolding joined
-    piece-handed e = piece-joined (omega arith) r k ∙ simp (status-in t code p, eq-eqb (t / 2 % 2) 0 (omega arith), type-in t code p, piece-in t code p)
+    piece-handed e = taken (omega arith) r k ∙ simp (status-in t code p, eq-eqb (t / 2 % 2) 0 (omega arith), type-in t code p, piece-in t code p)
 
-takes-less : {j : Joiner} {code n n′ : ℕ} → n′ ≤ n → Takes j code n → Takes j code n′
+pub takes-less : {j : Joiner} {code n n′ : ℕ} → n′ ≤ n → Takes j code n → Takes j code n′
 takes-less h k = record { free = k .free; same = k .same; fits = let f = k .fits in omega arith }
 
-takes-rest : (j : Joiner) (t code : ℕ) (p : List ℕ) {n : ℕ} → Takes j code (length p + n) → Takes (withPiece j t code p) code n
+pub takes-rest : (j : Joiner) (t code : ℕ) (p : List ℕ) {n : ℕ} → Takes j code (length p + n) → Takes (withPiece j t code p) code n
 unfolding otherType bytesOf
 takes-rest j t code p k = record { free = refl; same = rw (eq-eqb code code refl) refl; fits = let f = k .fits in simp length-append (omega arith) }
 
@@ -157,9 +100,9 @@ finishes-after : {code n n′ : ℕ} {whole whole′ : List ℕ} {d : Done Joine
 unfolding after
 finishes-after e w k = rw (e, w) (record { told-is = ap (λ (l : List Output). added ∷ l) (k .told-is); free = k .free; empty = k .empty })
 
-some-pieces : {m : List ℕ} {ps : List (List ℕ)} → Cut m ps → 1 ≤ length ps
-some-pieces (last h) = omega arith
-some-pieces (more h c) = omega arith
+-- The first piece goes behind what is gathered already.
+pub piece-first : (gathered m : List ℕ) → gathered ++ m ≡ (gathered ++ take 250 m) ++ drop 250 m
+piece-first gathered m = sym (append-assoc gathered (take 250 m) (drop 250 m) ∙ rw (take-append-drop 250 m) refl)
 
 -- The pieces of a message are joined to it, behind what is gathered already.
 pieces-finish : (code : ℕ) {m : List ℕ} {ps : List (List ℕ)} (j : Joiner) → Cut m ps → Takes j code (length m) →
@@ -172,13 +115,11 @@ pieces-finish code j (more {m} {ps} h c) k =
     let rest = drop 250 m in
     let front = length-take-le 250 m (omega arith) in
     let behind = length-drop 250 m in
-    let some = some-pieces c in
+    let some = cut-some c in
     let room : Takes j code (length p + length rest) = takes-less (omega arith) k in
     let e = piece-added j 2 code p (no-repeat j 2 code p refl) (takes-less (omega arith) k) refl in
-    let whole : bytesOf (j .gathered) ++ m ≡ (bytesOf (j .gathered) ++ p) ++ rest =
-    sym (append-assoc (bytesOf (j .gathered)) p rest ∙ rw (take-append-drop 250 m) refl) in
-    rw (bodies-more code p ps (λ z. let l = ap length z in omega arith), e)
-    (finishes-after (omega arith) whole (pieces-finish code (withPiece j 2 code p) c (takes-rest j 2 code p room)))
+    rw (bodies-more code p ps some, e)
+    (finishes-after (omega arith) (piece-first (bytesOf (j .gathered)) m) (pieces-finish code (withPiece j 2 code p) c (takes-rest j 2 code p room)))
 
 -- ---- copies on the line
 
@@ -189,15 +130,15 @@ calm-copies c (p ∷ ps) = calm-append (calm-append (calm-bytes (seal p)) c) (ca
 
 -- Behind each copy stands what a framer with nothing begun makes nothing of.
 module _ (behind : List Event) (calm : Calm behind) (q : through framerStep (hearing []) behind ≡ record { next = hearing []; told = [] }) where
-  copy-found : (b : List ℕ) → Body b → through framerStep (hearing []) (copyThen behind b) ≡ record { next = hearing []; told = packet b ∷ [] }
+  pub copy-found : (b : List ℕ) → Body b → through framerStep (hearing []) (copyThen behind b) ≡ record { next = hearing []; told = packet b ∷ [] }
   unfolding copyThen after
   copy-found b k = through-append framerStep (hearing []) (map Byte (seal b)) behind ∙ rw (packet-found b k) (rw q refl)
 
   copies-found : {ps : List (List ℕ)} → Each Body ps → through framerStep (hearing []) (flatMap (copyThen behind) ps) ≡ record { next = hearing []; told = map packet ps }
   unfolding flatMap through after
   copies-found no-body = refl
-  copies-found (one {p} {ps} k ks) =
-      through-append framerStep (hearing []) (copyThen behind p) (flatMap (copyThen behind) ps) ∙ rw (copy-found p k) (rw (copies-found ks) refl)
+  copies-found (one {x} {xs} k ks) =
+      through-append framerStep (hearing []) (copyThen behind x) (flatMap (copyThen behind) xs) ∙ rw (copy-found x k) (rw (copies-found ks) refl)
 
   -- Copies of bodies are what the joiner makes of these, one after the other.
   pub copies-run : {ps : List (List ℕ)} (hub : HubState) → hub .line ≡ hearing [] → Each Body ps →
@@ -233,8 +174,7 @@ module _ (hub : HubState) (code : ℕ) (m : List ℕ) (r : Rests hub) (c : code 
   unfolding wholeTold
   whole-by behind calm q =
       let k = whole-finishes in
-      let some = some-pieces (pieces-are-cut m) in
-      let n = packets-number code m in
+      let some = packets-some code m in
       let e : suc (length (packetsOf code m) - 1) ≡ length (packetsOf code m) = omega arith in
       rw (copies-run behind calm q hub (r .idle) (packets-bodies code m c bytes))
       (record {

@@ -1,0 +1,67 @@
+-- Runs that are computed whole: the story of sample 8, every kind of fate, two equal cards, a barred hub. Assumes nothing.
+use Prim.Native.Nat.{ℕ}
+use mathlib.Core.Path.{_≡_, refl}
+use mathlib.Core.Bool.{false}
+use mathlib.Core.List.{[], _∷_, flatMap}
+use Rattle.reader.specs.Promises.{sentOf}
+use Rattle.bench.specs.Bench as bench
+use Rattle.bench.specs.Bench.{delivered, failed, out}
+use Rattle.bench.specs.Delivery as delivery
+use Rattle.bench.specs.Delivery.{onLine, apart}
+use Rattle.bench.specs.Stories.{runs, fared, sample8, sample8Handed, everyFate, equalCards, barredTells, barredExpected}
+use Rattle.bench.proofs.Opening.{opening}
+
+all-of-it : ℕ
+unfolding opening bench.left bench.gapAfter bench.arrives bench.packetsIn bench.accepted bench.latest bench.handing sentOf bench.answersIn bench.noted bench.noting bench.gapFirst bench.begins bench.begin bench.hubHears bench.inTime bench.readerHears bench.tried bench.trial bench.benchStep bench.played bench.bench delivery.gapOf delivery.onLine delivery.apart runs fared barredTells flatMap
+all-of-it = 0
+
+-- ---- sample 8
+
+-- The card is handed out once, with its one 8.
+pub sample-8-handed : runs sample8 .handed ≡ sample8Handed
+unfolding all-of-it
+sample-8-handed = refl
+
+-- It is called delivered. Its last packet, the latest, was tried twice.
+pub sample-8-fared : fared (runs sample8) ≡ record { ending = delivered; tries = 2 ∷ 1 ∷ [] } ∷ []
+unfolding all-of-it
+sample-8-fared = refl
+
+-- ---- every kind of fate
+
+-- From the latest: one still out; one delivered at the second try; one that failed, though the hub had it; one delivered at the third try.
+pub every-fate-fared : fared (runs everyFate)
+    ≡ record { ending = out; tries = 1 ∷ [] }
+    ∷ record { ending = delivered; tries = 2 ∷ [] }
+    ∷ record { ending = failed; tries = 3 ∷ [] }
+    ∷ record { ending = delivered; tries = 3 ∷ [] }
+    ∷ []
+unfolding all-of-it
+every-fate-fared = refl
+
+pub every-fate-handed : runs everyFate .handed
+    ≡ record { code = 0x1B; bytes = 0x39 ∷ [] } ∷ record { code = 0x1B; bytes = 0x39 ∷ [] } ∷ record { code = 0x1B; bytes = 0x38 ∷ [] } ∷ []
+unfolding all-of-it
+every-fate-handed = refl
+
+-- ---- two equal cards
+
+-- Both are called delivered, and only one is handed out.
+pub equal-cards-fared : fared (runs equalCards) ≡ record { ending = delivered; tries = 2 ∷ [] } ∷ record { ending = delivered; tries = 1 ∷ [] } ∷ []
+unfolding all-of-it
+equal-cards-fared = refl
+
+pub equal-cards-handed : runs equalCards .handed ≡ record { code = 0x1B; bytes = 0x38 ∷ [] } ∷ []
+unfolding all-of-it
+equal-cards-handed = refl
+
+-- This is the line that the clause on neighbours excludes.
+pub equal-cards-excluded : apart (onLine (runs equalCards .sheet .log)) ≡ false
+unfolding all-of-it
+equal-cards-excluded = refl
+
+-- ---- a barred hub
+
+pub barred-hub-told : barredTells ≡ barredExpected
+unfolding all-of-it
+barred-hub-told = refl

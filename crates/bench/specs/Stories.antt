@@ -1,0 +1,90 @@
+-- Runs of the bench and of the hub that are computed whole.
+use Prim.Native.Nat.{ℕ}
+use mathlib.Core.List.{List, [], _∷_, _++_, map, flatMap}
+use lib.ListN.{length, replicate}
+use Rattle.words.specs.Machine.{through}
+use Rattle.packet.specs.Opcodes.{reader, decodeData}
+use Rattle.packet.specs.Packet.{bodyOf, seal}
+use Rattle.packet.specs.declared.Refusal.the-variants.{Barred}
+use Rattle.framer.specs.declared.Event.{Event}
+use Rattle.framer.specs.declared.Event.the-variants.{MessageGap}
+use Rattle.hub.specs.Joiner as joiner
+use Rattle.hub.specs.Hub as hub
+use Rattle.table.specs.Table.{defaults}
+use Rattle.reader.specs.Reader as whole-end
+use Rattle.bench.specs.Bench.{whole, lost, spoiled, gapAfter, Tried, Ending, Begun, Message, Bench, start, attempt, Move, played, bench}
+
+-- A bench with a hub and a reader just switched on.
+unfoldable pub runs : List Move → Bench
+runs moves = played (bench hub.switchedOn (whole-end.switchedOn defaults)) moves
+
+-- What became of each message: its ending, and how many tries each of its packets had, the latest first.
+pub record Fared : Type 0 where
+  pub ending : Ending
+  pub tries : List ℕ
+
+unfoldable pub fared : Bench → List Fared
+fared b = map (λ (m : Begun). record { ending = m .ending; tries = map (λ (p : Tried). length (p .tries)) (m .packets) }) (b .sheet .log)
+
+abbrev pub arrivesWhole : Move
+arrivesWhole = attempt (record { going = whole; coming = whole })
+
+abbrev pub copyLost : Move
+copyLost = attempt (record { going = lost; coming = whole })
+
+abbrev pub answerLost : Move
+answerLost = attempt (record { going = whole; coming = lost })
+
+-- One byte of the copy cut off; one bit of the answer's checksum turned.
+abbrev pub copySpoiled : Move
+copySpoiled = attempt (record { going = spoiled (0x06 ∷ 0xF3 ∷ 0x00 ∷ 0x00 ∷ 0x1B ∷ 0x38 ∷ 0xFE ∷ []); coming = whole })
+
+abbrev pub answerSpoiled : Move
+answerSpoiled = attempt (record { going = whole; coming = spoiled (0x04 ∷ 0xD0 ∷ 0x04 ∷ 0x00 ∷ 0xFF ∷ 0x29 ∷ []) })
+
+-- ---- sample 8
+
+-- A card of 251 characters that ends in sample number 8.
+abbrev pub card : List ℕ
+card = replicate 250 0x41 ++ (0x38 ∷ [])
+
+-- The last packet holds that one 8. Its ACK is lost, and the packet comes again.
+abbrev pub sample8 : List Move
+sample8 = start 0x1B card ∷ arrivesWhole ∷ answerLost ∷ arrivesWhole ∷ []
+
+-- It must be handed out once, with its one 8.
+abbrev pub sample8Handed : List Message
+sample8Handed = record { code = 0x1B; bytes = card } ∷ []
+
+-- ---- every kind of fate
+
+abbrev pub everyFate : List Move
+everyFate =
+    start 0x1B (0x38 ∷ []) ∷ copyLost ∷ copySpoiled ∷ arrivesWhole
+    ∷ start 0x1B (0x39 ∷ []) ∷ answerLost ∷ answerSpoiled ∷ copySpoiled
+    ∷ start 0x1B (0x39 ∷ []) ∷ answerSpoiled ∷ arrivesWhole
+    ∷ start 0x1B (0x37 ∷ []) ∷ copyLost
+    ∷ []
+
+-- ---- two equal cards
+
+-- The same card twice, and the first copy of the second is lost: its marked copy looks like a resend of the first.
+abbrev pub equalCards : List Move
+equalCards = start 0x1B (0x38 ∷ []) ∷ arrivesWhole ∷ start 0x1B (0x38 ∷ []) ∷ copyLost ∷ arrivesWhole ∷ []
+
+-- ---- a barred hub
+
+abbrev pub piece : ℕ → ℕ → ℕ → List ℕ
+piece status code byte = seal (bodyOf decodeData reader status (code ∷ byte ∷ []))
+
+-- A piece with another type inside a message bars the hub. Its resend, and a whole message, are refused until a message gap.
+abbrev pub barredLine : List Event
+barredLine =
+    flatMap gapAfter (piece 2 0x1B 0x38 ∷ piece 0 0x1C 0x39 ∷ piece 1 0x1C 0x39 ∷ piece 0 0x1C 0x39 ∷ []) ++ (MessageGap ∷ gapAfter (piece 0 0x1C 0x39))
+
+unfoldable pub barredTells : List joiner.Output
+barredTells = through hub.hubStep hub.switchedOn barredLine .told
+
+-- What it must tell: refused, its resend and a fresh copy refused too, and behind the message gap the same packet is a message.
+abbrev pub barredExpected : List joiner.Output
+barredExpected = joiner.added ∷ joiner.refused Barred ∷ joiner.refused Barred ∷ joiner.refused Barred ∷ joiner.handed 0x1C (0x39 ∷ []) ∷ []
