@@ -1,16 +1,14 @@
 -- An event and its lines, from what the hub's call promises; then one character. Assumes nothing.
-use Prim.Native.Nat.{ℕ, _+_, _-_, _≤_}
-use mathlib.Core.Path.{_≡_, refl, sym, ap, _∙_}
-use mathlib.Core.Bool.{Bool, true, false}
+use Prim.Native.Nat.{ℕ, _≤_}
+use mathlib.Core.Path.{_≡_, refl, ap, _∙_}
+use mathlib.Core.Bool.{false}
 use mathlib.Core.List.{List, [], _∷_, _++_, append-assoc}
 use native.Mathlib.Omega.{arith}
-use lib.ListN.{length, take, drop, length-append, length-drop}
+use lib.ListN.{length, take, drop}
 use lib.Seq.{take-append-seam, drop-at, length-take-le}
 use borrow.Author.Tests.{le-ltb}
-use Rattle.words.specs.Lists.{pick, either, over}
-use Rattle.words.specs.Machine.{Done}
+use Rattle.words.specs.Lists.{over}
 use Rattle.words.proofs.Lists.{take-over}
-use Rattle.packet.specs.declared.Refusal.{Refusal}
 use Rattle.framer.specs.declared.Event.{Event}
 use Rattle.framer.specs.declared.Event.the-variants as event
 use Rattle.hub.specs.Joiner.{Output, added, repeated, handed, refused}
@@ -18,25 +16,19 @@ use Rattle.hub.specs.Hub.{hubStep, messageBytes}
 use Rattle.hub.specs.Promises.{nameOf, toldOf, answerOf, messageOf, stateOf, tooSmall, Hears}
 use Rattle.hub.specs.declared.Hub.{Hub}
 use Rattle.hub.specs.declared.Answered.{Answered}
-use Rattle.listing.specs.Lines.{lineOf}
-use Rattle.listing.specs.Promises.{Writes, Takes}
-use Rattle.listing.specs.Tokens.{takeOf}
-use Rattle.listing.specs.declared.Digit.{Digit}
+use Rattle.listing.specs.Lines.{lineOf, answerLine}
+use Rattle.listing.specs.Listing.{skips, goes}
+use Rattle.listing.specs.Promises.{Takes}
 use Rattle.listing.specs.declared.Digit.the-variants.{No}
-use Rattle.listing.specs.declared.Token.{Token}
 use Rattle.listing.specs.declared.Token.the-variants.{Nothing, Byte, CharacterGap, MessageGap, Sign, Lone}
 use Rattle.listing.specs.declared.Taken.{Taken}
-use Rattle.listing.proofs.Rooms.{writes-nothing}
+use Rattle.listing.proofs.Rooms.{most-over, writes-nothing}
 use Rattle.hub_lister.specs.declared.Lister.{Lister}
 use Rattle.hub_lister.specs.declared.Step.{Step}
-use Rattle.hub_lister.specs.Listing.{Reading, messageLine, answerLine, happens, acts}
-use Rattle.hub_lister.specs.Promises.{readingOf, countOf, toldLine, Steps, Skips, Stops, Happens, Characters, PutsLines}
+use Rattle.hub_lister.specs.Listing.{messageLine, happens, acts}
+use Rattle.hub_lister.specs.Promises.{countOf, toldLine, Skips, Stops, Happens, Characters, PutsLines}
 
 -- ---- rooms
-
-most-over : (p room : List ℕ) → length p ≤ length (over p room)
-unfolding over
-most-over p room = simp length-append (omega arith)
 
 front-over : (p room rest : List ℕ) → take (length p) (over p room ++ rest) ≡ p
 unfolding over
@@ -99,7 +91,7 @@ module _ {hub : Hub} {line gather answer part : List ℕ} {e : Event} {a : Answe
   -- The message stands in m from its second byte on.
   pub happened : (rest : List ℕ) {m room room′ : List ℕ} {at place : ℕ} → drop 1 m ≡ part′ ++ rest → PutsLines (a .told) (a .answer) answer′ m room at place room′ →
       Happens hub line gather e room at (record { lister = record { hub = a .hub; waiting = No; ended = false }; place = place }) line′ gather′ room′
-  unfolding happens readingOf
+  unfolding happens goes
   happened rest {m} d k =
       let os : List Output = hubStep (stateOf hub line gather) e .told in
       let first : toldLine (a .told) m ≡ messageLine os = rw heard-told (line-told os part rest m (d ∙ rw heard-message refl)) in
@@ -112,7 +104,7 @@ module _ {hub : Hub} {line gather answer part : List ℕ} {e : Event} {a : Answe
 
 module _ {l : Lister} {line gather : List ℕ} {c : ℕ} {t : Taken} (k : Takes (l .waiting) c t) {room : List ℕ} {at : ℕ} where
   pub skipped : {r : Step} → at ≤ length room → t .token ≡ Nothing → Skips (l .hub) t at r → Characters l line gather c room at r line gather room
-  unfolding acts readingOf
+  unfolding acts skips
   skipped h e s = record { steps = rw (← k .is, e, s .is) (record { next = refl; writes = writes-nothing h }) }
 
   module _ {r : Step} {line′ gather′ room′ : List ℕ} where

@@ -14,7 +14,7 @@ pub use stream::run;
 ghost use Prim.Native.Nat.{_+_, _≤_};
 ghost use mathlib.Core.Path.{_≡_};
 ghost use lib.ListN.{length};
-ghost use Rattle.hub_lister.specs.Promises.{Starts, Listens, Finishes, GoesOn, Characters, Skips, Stops, Happens, PutsLines, MessageLine, PutsMessage, AnswerLine, countOf};
+ghost use Rattle.hub_lister.specs.Promises.{Starts, Listens, Finishes, Characters, Skips, Stops, Happens, PutsLines, MessageLine, PutsMessage, countOf};
 
 // Room for the lines of one character: a message of 4,096 bytes with its code type has 12,293, an answer of 7 has 23.
 pub const LINES: usize = 12316;
@@ -67,14 +67,8 @@ pub fn hear(
 pub fn finish(lister: Lister, room: &mut [u8]) -> usize
     ensures { λ r. ⌜ Finishes lister (now (room .entry)) r (now (room .exit)) ⌝ }
 {
-    if lister.ended {
-        return 0;
-    }
     let waiting = lister.waiting;
-    match waiting {
-        Digit::Value(_) => listing::put_line(b'E', b"", room, 0),
-        Digit::No => 0,
-    }
+    listing::put_last(lister.ended, waiting, room)
 }
 
 fn hear_all(
@@ -92,7 +86,7 @@ fn hear_all(
     let mut present = lister;
     let mut i = 0;
     let mut at = 0;
-    while i < text.len() && goes_on(present, room, at) {
+    while i < text.len() && listing::goes_on(present.ended, LINES, room.len() - at) {
         let step = character(present, line, gather, answer, message, text[i], room, at);
         present = step.lister;
         at = step.place;
@@ -103,16 +97,6 @@ fn hear_all(
         taken: i,
         count: at,
     }
-}
-
-fn goes_on(lister: Lister, room: &[u8], at: usize) -> bool
-    requires { ⌜ at ≤ length (now room) ⌝ }
-    ensures { λ r. ⌜ GoesOn lister (now (room .entry)) at r ⌝ }
-{
-    if lister.ended {
-        return false;
-    }
-    LINES <= room.len() - at
 }
 
 // One character, and the lines due for it.
@@ -187,7 +171,7 @@ fn stop(hub: Hub, room: &mut [u8], at: usize) -> Step
             waiting: Digit::No,
             ended: true,
         },
-        place: listing::put_line(b'E', b"", room, at),
+        place: listing::put_error(room, at),
     }
 }
 
@@ -232,7 +216,7 @@ fn put_lines(
     ensures { λ r. ⌜ PutsLines told count (now (answer .entry)) (now (message .entry)) (now (room .entry)) at r (now (room .exit)) ⌝ }
 {
     let behind = message_line(told, message, room, at);
-    answer_line(count, answer, room, behind)
+    listing::put_answer(&answer[..count], room, behind)
 }
 
 fn message_line(told: Told, message: &mut [u8], room: &mut [u8], at: usize) -> usize
@@ -256,14 +240,4 @@ fn put_message(code: u8, count: usize, message: &mut [u8], room: &mut [u8], at: 
     message[0] = code;
     let end = count + 1;
     listing::put_line(b'M', &message[..end], room, at)
-}
-
-fn answer_line(count: usize, answer: &[u8], room: &mut [u8], at: usize) -> usize
-    requires { ⌜ (length (now answer) ≡ 7) × (count ≤ 7) × (at + 23 ≤ length (now room)) ⌝ }
-    ensures { λ r. ⌜ AnswerLine count (now (answer .entry)) (now (room .entry)) at r (now (room .exit)) ⌝ }
-{
-    if count == 0 {
-        return at;
-    }
-    listing::put_line(b'A', &answer[..count], room, at)
 }

@@ -11,7 +11,7 @@ use libc::STDIN_FILENO;
 use libc::STDOUT_FILENO;
 ghost use Prim.Native.Nat.{_≤_};
 ghost use lib.ListN.{length};
-ghost use Rattle.hub_lister.specs.Session.{Ran};
+ghost use Rattle.hub_lister.specs.Promises.{Ran};
 
 // Reads as much at a time as the text buffer holds, to the end of the input or to what is wrong. A room under LINES is too small
 // for the lines of one character, and nothing is read then.

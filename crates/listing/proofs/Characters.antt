@@ -1,14 +1,13 @@
 -- One law for each answer of the functions that read a character. Assumes nothing.
-use Prim.Native.Nat.{ℕ, _+_, _-_, _<_, _≤_}
-use mathlib.Core.Path.{_≡_, refl, sym, ap, _∙_}
+use Prim.Native.Nat.{ℕ, _-_, _<_, _≤_}
+use mathlib.Core.Path.{_≡_, refl, ap, _∙_}
 use borrow.Author.Tests.{lt-ltb, le-ltb, le-leb, lt-leb, eq-eqb, ne-eqb}
-use Rattle.words.specs.Lists.{pick, either}
 use Rattle.listing.specs.declared.Digit.{Digit}
 use Rattle.listing.specs.declared.Digit.the-variants.{Value, No}
 use Rattle.listing.specs.declared.Token.{Token}
 use Rattle.listing.specs.declared.Token.the-variants.{Nothing, Byte, CharacterGap, MessageGap, Sign, Lone}
 use Rattle.listing.specs.declared.Taken.{Taken}
-use Rattle.listing.specs.Tokens.{digitOf, isBlank, signOf, firstOf, byteOf, secondOf, takeOf}
+use Rattle.listing.specs.Tokens.{digitOf, isBlank, signOf, firstOf, secondOf, takeOf}
 use Rattle.listing.specs.Promises.{IsDigit, Takes, Second, First, Signs, Joined}
 
 -- ---- a hex digit, by the ranges of the characters

@@ -1,4 +1,8 @@
 pub mod Characters
+pub mod Decimals
+pub mod Endings
 pub mod Lines
+pub mod Reading
 pub mod Rooms
+pub mod Sessions
 pub mod Unique

@@ -8,7 +8,7 @@ use lib.ListN.{length, take, drop, set, length-append, take-append-drop}
 use lib.Seq.{length-take-le, take-at, drop-at, drop-drop}
 use lib.Dec.{leb}
 use borrow.Author.Tests.{le-leb, lt-leb, leb-true}
-use Rattle.words.specs.Lists.{pick, over, overAt}
+use Rattle.words.specs.Lists.{over, overAt}
 use Rattle.words.proofs.Lists.{set-overAt, length-overAt}
 use Rattle.listing.specs.Lines.{fitting}
 use Rattle.listing.specs.Promises.{Puts, Writes}
@@ -24,6 +24,10 @@ overAt-then at n p q room e h =
     let behind : drop (length q) rest ≡ drop (length (p ++ q)) (drop at room) = drop-drop (length q) (length p) (drop at room) ∙ rw (length-append p q) refl in
     rw (same, take-at front rest n long, drop-at front rest n long, behind)
     (append-assoc (take at room) p (q ++ drop (length (p ++ q)) (drop at room)) ∙ rw (append-assoc p q (drop (length (p ++ q)) (drop at room))) refl)
+
+pub most-over : (p room : List ℕ) → length p ≤ length (over p room)
+unfolding over
+most-over p room = simp length-append (omega arith)
 
 pub overAt-nil : (at : ℕ) (room : List ℕ) → overAt at [] room ≡ room
 unfolding overAt over
@@ -66,6 +70,15 @@ unfolding fitting
 puts-none {p} {room} {at} h =
     let t = lt-leb (at + length p) (length room) h in
     record { is = simp t (omega arith); room-is = simp t (sym (overAt-nil at room)) }
+
+-- Nothing fits anywhere.
+no-fitting : (at : ℕ) (room : List ℕ) (d : Bool) → leb (at + 0) (length room) ≡ d → fitting [] at room ≡ []
+unfolding fitting
+no-fitting at room true e = simp e
+no-fitting at room false e = simp e
+
+pub puts-nothing : {at : ℕ} {room : List ℕ} → Puts [] at room at room
+puts-nothing {at} {room} = let n = no-fitting at room _ refl in record { is = rw n (omega arith); room-is = rw n (sym (overAt-nil at room)) }
 
 pub writes-put : {p room room′ : List ℕ} {at r : ℕ} → at + length p ≤ length room → Puts p at room r room′ → Writes p at room r room′
 unfolding fitting

@@ -1,3 +1,5 @@
 pub mod Lines
+pub mod Listing
 pub mod Promises
+pub mod Session
 pub mod Tokens

@@ -1,11 +1,15 @@
 -- What each function of `listing` promises: its answer, and every byte of the room it was lent.
-use Prim.Native.Nat.{ℕ, _+_, _-_, _/_, _%_, _<_, _≤_}
+use Prim.Native.Nat.{ℕ, _+_, _-_, _/_, _%_, _≤_}
+use mathlib.Core.Bool.{Bool}
 use mathlib.Core.List.{List}
 use mathlib.Core.Path.{_≡_}
 use lib.Dec.{leb}
 use lib.ListN.{length}
-use Rattle.words.specs.Lists.{pick, overAt}
-use Rattle.listing.specs.Lines.{capitalOf, fitting}
+use Rattle.words.specs.Lists.{overAt}
+use Rattle.words.specs.Machine.{Done}
+use Rattle.listing.specs.Lines.{capitalOf, decimal, decimals, answerLine, fitting}
+use Rattle.listing.specs.Listing.{Reading, lastLine}
+use Rattle.listing.specs.Session.{goesOn}
 use Rattle.listing.specs.Tokens.{digitOf, signOf, firstOf, byteOf, secondOf, takeOf}
 use Rattle.listing.specs.declared.Digit.{Digit}
 use Rattle.listing.specs.declared.Token.{Token}
@@ -25,6 +29,15 @@ pub record Spelt (b : ℕ) (r : Pair) : Type 0 where
 pub record Puts (p : List ℕ) (at : ℕ) (room : List ℕ) (r : ℕ) (room′ : List ℕ) : Type 0 where
   pub is : r ≡ at + length (fitting p at room)
   pub room-is : room′ ≡ overAt at (fitting p at room) room
+
+pub record PutsAnswer (answer : List ℕ) (at : ℕ) (room : List ℕ) (r : ℕ) (room′ : List ℕ) : Type 0 where
+  pub puts : Puts (answerLine answer) at room r room′
+
+pub record Finishes (ended : Bool) (waiting : Digit) (room : List ℕ) (r : ℕ) (room′ : List ℕ) : Type 0 where
+  pub puts : Puts (lastLine ended waiting) 0 room r room′
+
+pub record GoesOn (ended : Bool) (most left : ℕ) (r : Bool) : Type 0 where
+  pub is : r ≡ goesOn most ended left
 
 -- ---- the functions inside
 
@@ -48,3 +61,23 @@ pub record Writes (p : List ℕ) (at : ℕ) (room : List ℕ) (r : ℕ) (room′
   pub is : r ≡ at + length p
   pub room-is : room′ ≡ overAt at p room
   pub inside : r ≤ length room
+
+-- What a step, d, of a listing leaves: where the listing then stands, and its lines in the room from a place on.
+pub record Steps {S : Type 0} (d : Done (Reading S) ℕ) (room : List ℕ) (at : ℕ) (s′ : Reading S) (place : ℕ) (room′ : List ℕ) : Type 0 where
+  pub next : s′ ≡ d .next
+  pub writes : Writes (d .told) at room place room′
+
+pub record Fits (numbers : List ℕ) (most : ℕ) (r : Bool) : Type 0 where
+  pub is : r ≡ leb (length (decimals numbers)) most
+
+-- The digits, without the space.
+pub record Counts (n r : ℕ) : Type 0 where
+  pub is : r + 1 ≡ length (decimal n)
+
+pub record Last (n r : ℕ) : Type 0 where
+  pub is : r ≡ 48 + n % 10
+
+-- Put so that they end before a place.
+pub record Backs (p room : List ℕ) (end : ℕ) (room′ : List ℕ) : Type 0 where
+  pub is : room′ ≡ overAt (end - length p) p room
+  pub long : length room′ ≡ length room

@@ -1,6 +1,6 @@
 -- `hub_lister::stream::end` is safe: the line lies within the room. Assumes nothing.
+use Rattle.listing.proofs.Sessions.{finish-inside}
 use native.Mathlib.Omega.{arith}
-use Rattle.hub_lister.proofs.Sessions.{finish-inside}
 use borrow.Author.Needs.{needs}
 use Rattle.hub_lister.proofs.stream.end.Statement.{statement}
 use Rattle.hub_lister.proofs.stream.end.Tie as tie
@@ -9,7 +9,7 @@ finish-requires : tie.Need-finish-requires
 finish-requires c κs = search needs
 
 write-requires : tie.Need-write-requires
-write-requires c κs = omega (arith, finish-inside (c .before .before .before .finish .ensures))
+write-requires c κs = omega (arith, finish-inside (c .before .before .before .finish .ensures .finishes))
 
 same-length : tie.Need-same-length
 same-length c = search needs

@@ -2,11 +2,10 @@
 -- Assumes nothing.
 use Prim.Native.Nat.{_≤_}
 use mathlib.Core.Path.{_≡_}
-use native.Mathlib.Omega.{arith}
 use lib.ListN.{length}
 use borrow.Author.Needs.{needs}
-use Rattle.hub_lister.specs.Session.{Ran}
-use Rattle.hub_lister.proofs.Sessions.{ran-none}
+use Rattle.hub_lister.specs.Promises.{Ran}
+use Rattle.hub_lister.proofs.Theorems.{begins}
 use Rattle.hub_lister.proofs.stream.listen.Statement.{statement}
 use Rattle.hub_lister.proofs.stream.listen.Tie as tie
 
@@ -21,7 +20,7 @@ start-requires : tie.Need-start-requires Inv-loop μ-loop
 start-requires c κs = search needs
 
 loop-holds : tie.Need-loop-holds Inv-loop μ-loop
-loop-holds c = (ran-none (c .start .ensures), search needs, search needs, search needs)
+loop-holds c = (begins _ _ (c .start .ensures), search needs, search needs, search needs)
 
 read-requires : tie.Need-read-requires Inv-loop μ-loop
 read-requires c κs = search needs

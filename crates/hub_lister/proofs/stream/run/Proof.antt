@@ -1,5 +1,5 @@
 -- `hub_lister::stream::run` meets its contract: a session of no text, or what `listen` gives. Assumes nothing.
-use Rattle.hub_lister.proofs.Sessions.{ran-none}
+use Rattle.hub_lister.proofs.Theorems.{begins}
 use borrow.Author.Needs.{needs}
 use Rattle.hub_lister.proofs.stream.run.Statement.{statement}
 use Rattle.hub_lister.proofs.stream.run.Tie as tie
@@ -8,7 +8,7 @@ start-requires : tie.Need-start-requires
 start-requires c κs = search needs
 
 returns : tie.Need-returns
-returns c = ran-none (c .start .ensures)
+returns c = begins _ _ (c .start .ensures)
 
 listen-requires : tie.Need-listen-requires
 listen-requires c κs = search needs

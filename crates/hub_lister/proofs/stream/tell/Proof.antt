@@ -4,8 +4,9 @@ use mathlib.Core.Path.{_≡_}
 use native.Mathlib.Omega.{arith}
 use lib.ListN.{length, length-take, length-drop}
 use borrow.Author.Needs.{needs}
-use Rattle.hub_lister.specs.Session.{Ran}
-use Rattle.hub_lister.proofs.Sessions.{ran-more, one-taken}
+use Rattle.hub_lister.specs.Promises.{Ran}
+use Rattle.listing.proofs.Sessions.{one-taken}
+use Rattle.hub_lister.proofs.Theorems.{continues}
 use Rattle.hub_lister.proofs.stream.tell.Statement.{statement}
 use Rattle.hub_lister.proofs.stream.tell.Tie as tie
 
@@ -38,12 +39,12 @@ hear-requires : tie.Need-hear-requires Inv-loop μ-loop
 hear-requires c κs = search needs
 
 write-requires : tie.Need-write-requires Inv-loop μ-loop
-write-requires c κs = omega (arith, c .before .before .before .hear .ensures .inside)
+write-requires c κs = omega (arith, c .before .before .before .hear .ensures .hears .inside)
 
 add-from : tie.Need-add-from Inv-loop μ-loop
 add-from c =
     let b = c .before .before .before .before .before in
-    omega (arith, simp (length-take, length-drop) at (b .hear .ensures .within), b .before .before .before .before .before .before .before .before .before .before .good)
+    omega (arith, simp (length-take, length-drop) at (b .hear .ensures .hears .within), b .before .before .before .before .before .before .before .before .before .before .good)
 
 loop-less : tie.Need-loop-less Inv-loop μ-loop
 loop-less c =
@@ -51,16 +52,16 @@ loop-less c =
     let h = b .hear .ensures in
     let l = b .before .before .before .before .before .before .before in
     let one =
-    one-taken h (b .before .before .before .before .before .if1 .left)
+    one-taken (h .hears) (b .before .before .before .before .before .if1 .left)
     (omega (arith, l .loop .inv .2, l .before .before .before .pre .1))
     (simp (length-take, length-drop) (omega arith)) in
-    omega (arith, simp (length-take, length-drop) at (h .within), one)
+    omega (arith, simp (length-take, length-drop) at (h .hears .within), one)
 
 loop-again : tie.Need-loop-again Inv-loop μ-loop
 loop-again c =
     let b = c .before .before .before .before .before .before in
     let h = b .hear .ensures in
-    (ran-more (b .before .before .before .before .before .before .before .loop .inv .0) h, omega (arith, simp (length-take, length-drop) at (h .within)), search needs)
+    (continues (b .before .before .before .before .before .before .before .loop .inv .0) h, omega (arith, simp (length-take, length-drop) at (h .hears .within)), search needs)
 
 same-length-2 : tie.Need-same-length-2 Inv-loop μ-loop
 same-length-2 c = search needs
