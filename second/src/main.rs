@@ -1,30 +1,11 @@
-//! The second program: the hub's and the reader's listings once more, written from the rules alone, and the tools that
-//! hold the proved programs against them.
-
-mod compare;
-mod dice;
-mod framer;
-mod hub;
-mod line;
-mod listing;
-mod packet;
-mod program;
-mod reader;
-mod sender;
-mod shrink;
-mod sights;
-mod streams;
-mod table;
-#[cfg(test)]
-mod tests;
-mod watch_hub;
-mod watch_reader;
+//! The second program on the command line.
 
 use std::io::Write;
 use std::process::ExitCode;
 
-use compare::Programs;
-use listing::Side;
+use second::compare::{self, Programs};
+use second::listing::{self, Side};
+use second::{line, streams};
 
 const USAGE: &str = "usage:
   second hub                                  the hub listing, from standard input

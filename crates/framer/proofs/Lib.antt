@@ -1,5 +1,6 @@
 pub mod Behind
 pub mod Outcomes
+pub mod Quick
 pub mod Steps
 pub mod Theorems
 pub mod TwoHalves

@@ -85,7 +85,7 @@ listens {h} {buffer} {half} {e} {a} {n} {r} long p l f b =
 abbrev back : Bool → List ℕ → List ℕ → List ℕ
 back second buffer half = take (placeOf second) buffer ++ (half ++ drop 257 (drop (placeOf second) buffer))
 
-place-most : (second : Bool) → placeOf second ≤ 257
+pub place-most : (second : Bool) → placeOf second ≤ 257
 unfolding placeOf
 place-most true = omega arith
 place-most false = omega arith

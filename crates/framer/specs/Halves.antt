@@ -1,16 +1,21 @@
 -- The line buffer of an end that remembers its last accepted packet: two halves of 257 bytes. One half receives, and an accepted
 -- packet stays where it was received while the other half takes the next.
-use Prim.Native.Nat.{ℕ, _≤_}
-use mathlib.Core.Bool.{Bool, false, not}
+use Prim.Native.Nat.{ℕ, _+_, _≤_}
+use mathlib.Core.Bool.{Bool, true, false, not}
 use mathlib.Core.List.{List, [], _++_}
 use mathlib.Core.Path.{_≡_}
-use lib.Dec.{leb}
-use lib.ListN.{length, take, drop}
-use Rattle.words.specs.Lists.{pick, Bytes}
+use lib.Dec.{leb, ltb}
+use lib.ListN.{length, getD, take, drop}
+use Rattle.words.specs.Lists.{pick, both, Bytes}
 use Rattle.framer.specs.Framer.{Line, hearing}
-use Rattle.framer.specs.Promises.{lineOf, controlOf, framedOf, lineAfter}
+use Rattle.framer.specs.Promises.{begunOf, lineOf, controlOf, framedOf, lineAfter, Frames}
 use Rattle.framer.specs.declared.Event.{Event}
+use Rattle.framer.specs.declared.Event.the-variants.{Byte, CharacterGap, MessageGap}
+use Rattle.framer.specs.declared.Found.the-variants.{Nothing}
+use Rattle.framer.specs.declared.Framer.{Framer}
 use Rattle.framer.specs.declared.Halves.{Halves}
+use Rattle.framer.specs.declared.Going.{Going}
+use Rattle.framer.specs.declared.Going.the-variants.{On, Left}
 use Rattle.framer.specs.declared.Listened.{Listened}
 
 -- Where a half starts, and its bytes.
@@ -50,6 +55,16 @@ unfoldable pub bufferAfter : Halves → List ℕ → Event → List ℕ
 bufferAfter h buffer e =
     take (placeOf (h .second)) buffer ++ (lineAfter (h .framer) (halfOf (h .second) buffer) e ++ drop 257 (drop (placeOf (h .second)) buffer))
 
+-- Whether a byte is inside a packet: it neither begins nor ends one.
+unfoldable pub insideOf : Framer → List ℕ → Bool
+insideOf f line = both (ltb 0 (begunOf f)) (both (leb 4 (getD line 0 0)) (leb (begunOf f) (getD line 0 0)))
+
+-- Whether the framer goes on and tells nothing: inside a packet, and where it is deaf.
+unfoldable pub goesOn : Halves → List ℕ → Event → Bool
+goesOn h buffer (Byte b) = pick (h .framer .deaf) true (insideOf (h .framer) (halfOf (h .second) buffer))
+goesOn h buffer CharacterGap = false
+goesOn h buffer MessageGap = false
+
 -- After a packet of n bytes was accepted.
 abbrev pub acceptedOf : Halves → ℕ → Halves
 acceptedOf h n = record { framer = h .framer; second = not (h .second); last = n }
@@ -82,3 +97,14 @@ pub record Place (second : Bool) (r : ℕ) : Type 0 where
 pub record Last (h : Halves) (r : ℕ) : Type 0 where
   pub is : r ≡ lastOf h
   pub most : r ≤ 255
+
+-- Where the framer goes on, what `listen` promises, and nothing is found; else nothing is done.
+pub data GoesOn (h : Halves) (buffer : List ℕ) (e : Event) : Going → List ℕ → Type 0 where
+  on : {next : Halves} {buffer′ : List ℕ} → goesOn h buffer e ≡ true → Listens h buffer e (record { halves = next; found = Nothing }) buffer′ → GoesOn h buffer e (On next) buffer′
+  left : {buffer′ : List ℕ} → goesOn h buffer e ≡ false → buffer′ ≡ buffer → GoesOn h buffer e Left buffer′
+
+-- How many bytes are begun with this one behind them; 0 where it was left.
+pub record Inside (f : Framer) (line : List ℕ) (b r : ℕ) (line′ : List ℕ) : Type 0 where
+  pub is : r ≡ pick (insideOf f line) (begunOf f + 1) 0
+  pub frames : (r ≡ 0 → ⊥) → Frames f line (Byte b) (record { framer = record { count = r; deaf = false }; found = Nothing }) line′
+  pub left : r ≡ 0 → line′ ≡ line

@@ -3,9 +3,10 @@ use packet::Checked;
 use packet::Head;
 use packet::Refusal;
 ghost use Prim.Native.Nat.{_≤_};
+ghost use mathlib.Core.Bool.{false};
 ghost use mathlib.Core.Path.{_≡_};
 ghost use lib.ListN.{length};
-ghost use Rattle.framer.specs.Halves.{IdleHalves, Listens, Received, Kept, AcceptsLast, Place, Last};
+ghost use Rattle.framer.specs.Halves.{IdleHalves, Listens, Received, Kept, AcceptsLast, Place, Last, GoesOn, Inside};
 ghost use Rattle.framer.specs.Promises.{Idle, Begun, Gap, Unfinished, Frames};
 
 // A packet of the greatest length, its checksum with it.
@@ -189,6 +190,71 @@ fn listen_in(halves: Halves, buffer: &mut [u8], event: Event) -> Listened
         },
         found,
     }
+}
+
+// What a byte came to that neither begins nor ends a packet: the framer goes on. Any other event is left.
+pub enum Going {
+    On(Halves),
+    Left,
+}
+
+// The short way of `listen`, for most bytes of a line: those inside a packet, and those that a deaf framer ignores.
+pub fn go_on(halves: Halves, buffer: &mut [u8; HALVES], event: Event) -> Going
+    ensures { λ r. ⌜ GoesOn halves (now (buffer .entry)) event r (now (buffer .exit)) ⌝ }
+{
+    match event {
+        Event::Byte(b) => carry(halves, buffer, b),
+        Event::CharacterGap => Going::Left,
+        Event::MessageGap => Going::Left,
+    }
+}
+
+fn carry(halves: Halves, buffer: &mut [u8], b: u8) -> Going
+    requires { ⌜ length (now buffer) ≡ 514 ⌝ }
+    ensures { λ r. ⌜ GoesOn halves (now (buffer .entry)) (Event.Byte b) r (now (buffer .exit)) ⌝ }
+{
+    let before = halves.framer;
+    if before.deaf {
+        return Going::On(Halves {
+            framer: Framer {
+                count: 0,
+                deaf: true,
+            },
+            second: halves.second,
+            last: last(halves),
+        });
+    }
+    let from = place(halves.second);
+    let end = from + LINE;
+    let count = inside(before, &mut buffer[from..end], b);
+    if count == 0 {
+        return Going::Left;
+    }
+    Going::On(Halves {
+        framer: Framer { count, deaf: false },
+        second: halves.second,
+        last: last(halves),
+    })
+}
+
+// A byte inside a packet goes behind those before it: how many there are then. Where it begins or ends one it is left: 0.
+fn inside(framer: Framer, line: &mut [u8], b: u8) -> usize
+    requires { ⌜ (257 ≤ length (now line)) × (framer .deaf ≡ false) ⌝ }
+    ensures { λ r. ⌜ Inside framer (now (line .entry)) b r (now (line .exit)) ⌝ }
+{
+    let n = begun(framer);
+    if n == 0 {
+        return 0;
+    }
+    let length = words::wide(line[0]);
+    if length < 4 {
+        return 0;
+    }
+    if length < n {
+        return 0;
+    }
+    line[n] = b;
+    n + 1
 }
 
 // The first n bytes of the half that receives.

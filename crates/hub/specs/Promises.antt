@@ -13,10 +13,11 @@ use Rattle.packet.specs.Refusals.{causeOf}
 use Rattle.packet.specs.declared.Reply.the-variants.{Ack}
 use Rattle.packet.specs.declared.Refusal.the-variants as refusal
 use Rattle.framer.specs.Behind.{framed}
-use Rattle.framer.specs.Halves.{lineIn, keptIn, receivedIn, idleHalves, listenedOf, bufferAfter, acceptedOf}
+use Rattle.framer.specs.Halves.{lineIn, keptIn, receivedIn, idleHalves, listenedOf, bufferAfter, acceptedOf, goesOn, Listens}
 use Rattle.framer.specs.declared.Halves.{Halves}
 use Rattle.framer.specs.declared.Event.{Event}
 use Rattle.framer.specs.declared.Event.the-variants.{Byte, CharacterGap, MessageGap}
+use Rattle.framer.specs.declared.Found.the-variants.{Nothing}
 use Rattle.hub.specs.Joiner.{Gathered, none, some, Joiner, Output, added, repeated, handed, refused, bytesOf, adding}
 use Rattle.hub.specs.Hub.{HubState, packetStep, heardStep, hubStep, nakBytes, answerBytes, messageBytes}
 use Rattle.hub.specs.declared.Gathering.{Gathering}
@@ -26,6 +27,8 @@ use Rattle.hub.specs.declared.Told.the-variants as told
 use Rattle.hub.specs.declared.Joined.{Joined}
 use Rattle.hub.specs.declared.Stepped.{Stepped}
 use Rattle.hub.specs.declared.Answered.{Answered}
+use Rattle.hub.specs.declared.Going.{Going}
+use Rattle.hub.specs.declared.Going.the-variants.{On, Left}
 
 -- ---- the answers that are enums
 
@@ -222,3 +225,9 @@ nameBytes (told.Refused r) = nakBytes (causeOf r)
 pub record Writes (bytes answer : List ℕ) (r : ℕ) (answer′ : List ℕ) : Type 0 where
   pub is : r ≡ length bytes
   pub answer-is : answer′ ≡ over bytes answer
+
+-- Where the framer goes on, as `listen` promises, and nothing else changes; else nothing is done.
+pub data GoesOn (hub : Hub) (line : List ℕ) (e : Event) : Going → List ℕ → Type 0 where
+  on : {halves : Halves} {g : Gathering} {line′ : List ℕ} → goesOn (hub .line) line e ≡ true → Listens (hub .line) line e (record { halves = halves; found = Nothing }) line′ →
+      Gatherings (hub .gathering) g → GoesOn hub line e (On (record { line = halves; gathering = g })) line′
+  left : {line′ : List ℕ} → goesOn (hub .line) line e ≡ false → line′ ≡ line → GoesOn hub line e Left line′

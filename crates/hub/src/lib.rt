@@ -17,7 +17,7 @@ ghost use Rattle.packet.specs.Packet.{seal, dataIn, replyBody};
 ghost use Rattle.packet.specs.Refusals.{causeOf};
 ghost use Rattle.hub.specs.Joiner.{joinStep};
 ghost use Rattle.hub.specs.Hub.{nakBytes, decodeStep, packetStep};
-ghost use Rattle.hub.specs.Promises.{Closed, SwitchedOn, Hears, NoRoom, Cleared, nameBytes, Writes, Steps, Stays, Receives, Settles, Accepts, Sound, Gatherings, Within, Unchanged, Bars, OtherType, Joins, Adds, Keeps, HandsOut, joinerOf};
+ghost use Rattle.hub.specs.Promises.{Closed, SwitchedOn, Hears, GoesOn, NoRoom, Cleared, nameBytes, Writes, Steps, Stays, Receives, Settles, Accepts, Sound, Gatherings, Within, Unchanged, Bars, OtherType, Joins, Adds, Keeps, HandsOut, joinerOf};
 
 // The line buffer: two halves, one receives, the last accepted packet stays in the other.
 pub const LINE: usize = HALVES;
@@ -116,6 +116,25 @@ pub fn hear(
         hub: cleared(next, event),
         told,
         answer: count,
+    }
+}
+
+// What a byte came to that neither begins nor ends a packet: the hub goes on, with nothing to tell. Any other event is left.
+pub enum Going {
+    On(Hub),
+    Left,
+}
+
+// The short way of `hear`, for most bytes of a line. It needs no room and writes none.
+pub fn go_on(hub: Hub, line: &mut [u8; LINE], event: Event) -> Going
+    ensures { λ r. ⌜ GoesOn hub (now (line .entry)) event r (now (line .exit)) ⌝ }
+{
+    match framer::go_on(hub.line, line, event) {
+        framer::Going::On(halves) => Going::On(Hub {
+            line: halves,
+            gathering: sound(hub.gathering),
+        }),
+        framer::Going::Left => Going::Left,
     }
 }
 

@@ -1,0 +1,470 @@
+// Motikhund for C: the serial protocol core of a card reader and of the hub behind it, in Simple Serial Interface
+// (SSI).
+//
+// A reader sends what it read as a message: a code type and 0 to 4,096 bytes, cut into pieces of up to 250 bytes
+// with a packet each. The hub answers each packet with ACK or NAK and joins the pieces. Where no answer comes, the
+// reader sends the packet again with a resend mark; a hub that has it already acknowledges it and does not add it
+// twice. The other way, a host (the hub's side) sends commands to the reader: beeps, LED, aim, session, parameters.
+//
+// You bring the serial port and the clock. What happens on the line goes in as events, one at a time: a byte, a
+// character gap (a silence that ends a packet) or a message gap (a longer one, at which a hub forgets all that came
+// before). What is to be sent stands in a buffer of yours, and a number says what happened: 0 for nothing, 1 to 13
+// for a refusal, 100 and above for all else.
+//
+// Keep silent for a character gap after all that you send, and for a message gap before a message that follows a
+// failed one or that begins with a packet equal to the one before it: if the first copy of such a packet were lost,
+// the hub would take its resend for one of the packet before. Two equal pieces in a row inside one message are open
+// to the same mistake.
+//
+// Most firmware needs only the last part of this file: the types mk_hub, mk_reader, mk_framer and mk_sender hold
+// all buffers, and short functions work on them. bindings/c/example.c is a whole program. To build from the root of
+// the repository:
+//
+//     gcc -std=c11 -I bindings/c firmware.c target/staticlib/libexports.a
+//
+// The archive is for x86-64 and needs no other library. No call allocates, waits, or keeps anything between calls,
+// so machines may be used side by side in threads, each machine by one thread at a time. Each call is proved
+// (crates/exports) to end and to read and write only what it is lent, whatever bytes stand there. Only this is left
+// to you, as C cannot say it: every pointer is valid for the length given with it, or for the number in its
+// brackets, and is not NULL, even for a length of 0; and the buffers that one call is lent do not overlap.
+#ifndef MOTIKHUND_H
+#define MOTIKHUND_H
+
+#include <stdbool.h>
+#include <stddef.h>
+#include <stdint.h>
+
+#ifdef __cplusplus
+static_assert(sizeof(size_t) == 8, "the archive is for x86-64");
+extern "C" {
+#else
+_Static_assert(sizeof(size_t) == 8, "the archive is for x86-64");
+#endif
+
+// ---- constants
+
+// Sizes in bytes. A call that is lent less gives MK_ROOM.
+enum {
+    MK_FRAMER_CONTROL_SIZE = 9,  // a framer's control value
+    MK_HUB_CONTROL_SIZE = 29,    // a hub's
+    MK_SENDER_CONTROL_SIZE = 35, // a sender's
+    MK_READER_CONTROL_SIZE = 83, // a reader's
+    MK_PACKET_SIZE = 257,        // the longest packet with its checksum: building, a framer's line, a copy
+    MK_LINE_SIZE = 514,          // the line of hub and reader: the packet that comes in, and the last accepted one
+    MK_MESSAGE_SIZE = 4096,      // the longest message, its code type not counted
+    MK_ANSWER_SIZE = 7,          // the longest ACK or NAK, and so a hub's answer
+    MK_READER_ANSWER_SIZE = 25,  // a reader's longest answer: a PARAM_SEND with all nine parameters
+    MK_DATA_SIZE = 251           // the most data in a packet
+};
+
+// Events on a line.
+enum {
+    MK_CHARACTER_GAP = 256, // 0 to 255 are the byte that came; this is a silence that ends a packet
+    MK_MESSAGE_GAP = 257    // a longer silence; any number above means it too
+};
+
+// What a sender hears of the host, and what mk_answer writes.
+enum {
+    MK_REPLY_ACK = 256,      // mk_answer: an ACK; 0 to 255 are a NAK with that cause
+    MK_HEARD_ACK = 256,      // sender: an ACK came; 0 to 255 are a NAK with that cause
+    MK_HEARD_TIME_OUT = 257, // sender: no answer came in time
+    MK_HEARD_NOTHING = 258   // sender: nothing that it heeds; any number above means it too
+};
+
+// Refusals. Behind each, how hub and reader answer it on the line. A reader sends no NAK where parameter 9Fh is 0,
+// and none for 1 to 3 while a message is out.
+enum {
+    MK_LENGTH = 1,    // a packet's length below 4; NAK 1
+    MK_CHECKSUM = 2,  // wrong checksum; NAK 1
+    MK_CUT = 3,       // a packet cut by a gap, or too few bytes; NAK 1
+    MK_SOURCE = 4,    // a source that is wrong for this side; NAK 2
+    MK_STATUS = 5,    // a status bit that is not allowed; NAK 2
+    MK_OPCODE = 6,    // an opcode unknown to this side; NAK 2
+    MK_DATA = 7,      // a data length wrong for the opcode; NAK 2
+    MK_BEEP = 8,      // a beep code that is not allowed; NAK 6
+    MK_PARAMETER = 9, // a parameter or value that is not allowed; NAK 6
+    MK_BARRED = 10,   // hub: another type inside a message, or too long; then all decode data to a message gap; NAK 6
+    MK_SENDER = 11,   // sender: a message over 4,096 bytes, or one still out; no answer
+    MK_ROOM = 13      // something is lent too small: nothing is changed, and the event is not taken; no answer
+};
+
+// What a call tells that is no refusal.
+enum {
+    MK_NOTHING = 0,     // nothing to tell
+    MK_PACKET = 100,    // a packet was found
+    MK_WRITTEN = 101,   // a packet was written
+    MK_ADDED = 110,     // hub: a piece was added to the message
+    MK_REPEATED = 111,  // a resend of what was accepted already: answered again, and nothing else done
+    MK_MESSAGE = 112,   // hub: a message is whole
+    MK_COPY = 120,      // sender: a packet stands in the copy room and is to be sent
+    MK_DELIVERED = 121, // sender: the message is at the hub
+    MK_FAILED = 122,    // sender: the message is given up
+    MK_OUT = 123,       // sender: a message is out
+    MK_ACTED = 130      // reader: a command was acted on
+};
+
+// The causes of a NAK.
+enum {
+    MK_CAUSE_RESEND = 1,  // send it again
+    MK_CAUSE_CONTEXT = 2, // makes no sense here
+    MK_CAUSE_DENIED = 6   // understood, and not done
+};
+
+// A packet's source.
+enum {
+    MK_SOURCE_READER = 0, // the reader
+    MK_SOURCE_HOST = 4    // the host, so also the hub
+};
+
+// A packet's status bits; the others are 0.
+enum {
+    MK_STATUS_RESEND = 1,   // the resend mark
+    MK_STATUS_MORE = 2,     // DECODE_DATA only: more pieces follow
+    MK_STATUS_PERMANENT = 8 // PARAM_SEND: the values are to outlast power-up
+};
+
+// Opcodes.
+enum {
+    MK_OPCODE_AIM_OFF = 0xC4,        // no data
+    MK_OPCODE_AIM_ON = 0xC5,         // no data
+    MK_OPCODE_PARAM_SEND = 0xC6,     // a beep code or FFh for none, then pairs of parameter and value
+    MK_OPCODE_PARAM_REQUEST = 0xC7,  // parameters, or FEh for all; answered by a PARAM_SEND
+    MK_OPCODE_PARAM_DEFAULTS = 0xC8, // no data
+    MK_OPCODE_CMD_ACK = 0xD0,        // no data
+    MK_OPCODE_CMD_NAK = 0xD1,        // the cause
+    MK_OPCODE_START_SESSION = 0xE4,  // no data
+    MK_OPCODE_STOP_SESSION = 0xE5,   // no data
+    MK_OPCODE_BEEP = 0xE6,           // a beep code
+    MK_OPCODE_LED_ON = 0xE7,         // which LEDs; only bit 0 is looked at
+    MK_OPCODE_LED_OFF = 0xE8,        // the same
+    MK_OPCODE_SCAN_ENABLE = 0xE9,    // no data
+    MK_OPCODE_SCAN_DISABLE = 0xEA,   // no data
+    MK_OPCODE_DECODE_DATA = 0xF3     // a message's code type, then a piece of it
+};
+
+// The reader's parameters; behind each its lowest and highest value and the house default.
+enum {
+    MK_PARAMETER_POWER_MODE = 0x80,        // 0 to 1, 0
+    MK_PARAMETER_SAME_SYMBOL_TIME = 0x89,  // 0 to 99, 10
+    MK_PARAMETER_TRIGGER = 0x8A,           // 0, 2, 4, 7 or 8, 0
+    MK_PARAMETER_RESPONSE_TIME_OUT = 0x9B, // 0 to 99, 20
+    MK_PARAMETER_BAUD = 0x9C,              // 1 to 7, 6
+    MK_PARAMETER_PARITY = 0x9E,            // 0 to 4, 4
+    MK_PARAMETER_ACK_NAK = 0x9F,           // 0 to 1, 1; at 0 the reader sends no ACK and no NAK
+    MK_PARAMETER_AIM_DURATION = 0xED,      // 0 to 99, 0
+    MK_PARAMETER_PACKETED_DATA = 0xEE      // 0 to 1, 1
+};
+
+// ---- the calls of the archive
+//
+// A control value is all that a machine remembers beside its buffers. It stands in bytes of yours, and any bytes
+// are one. Where a call asks for a size, more may be lent; bytes past what is written stay as they were. With
+// MK_ROOM nothing is changed, and the numbers told with it (head, size, value, values) are 0; they are 0 too where
+// a result has none.
+
+// Judges the front of some bytes. MK_PACKET, and the head: length, opcode, source, status. The data begin at
+// bytes[4] and have length - 4 bytes; the packet has length + 2 bytes, and those behind it are not read. Or MK_CUT
+// (too few bytes, or none), MK_LENGTH, MK_CHECKSUM.
+uint32_t mk_check(const uint8_t *bytes, size_t bytes_len, size_t head[4]);
+
+// Builds a packet at the front of a room of MK_PACKET_SIZE. MK_WRITTEN and the packet's size. Or MK_ROOM; MK_SOURCE
+// (only 0 and 4 are sources); MK_STATUS; MK_DATA (over MK_DATA_SIZE bytes of data). Any opcode is taken.
+uint32_t mk_build(uint8_t *room, size_t room_len, uint8_t opcode, uint8_t source, uint8_t status, const uint8_t *data,
+    size_t data_len, size_t *size);
+
+// Builds an ACK or a NAK at the front of a room of MK_ANSWER_SIZE; reply is MK_REPLY_ACK or the NAK's cause.
+// MK_WRITTEN and the packet's size. Or MK_ROOM, MK_SOURCE.
+uint32_t mk_answer(uint8_t *room, size_t room_len, uint8_t source, uint32_t reply, size_t *size);
+
+// Makes a framer's control value (MK_FRAMER_CONTROL_SIZE): nothing begun. MK_NOTHING, or MK_ROOM.
+uint32_t mk_framer_idle(uint8_t *control, size_t control_len);
+
+// One event of a line, cut into packets; the line buffer has MK_PACKET_SIZE. MK_PACKET: the packet stands at the
+// front of the line buffer until the next event, with its head as of mk_check. MK_LENGTH and MK_CHECKSUM, at which
+// the framer ignores all up to the next gap; MK_CUT; MK_NOTHING; MK_ROOM.
+uint32_t mk_framer_hear(uint8_t *control, size_t control_len, uint8_t *line, size_t line_len, uint32_t event,
+    size_t head[4]);
+
+// Makes a hub's control value (MK_HUB_CONTROL_SIZE): just switched on. MK_NOTHING, or MK_ROOM.
+uint32_t mk_hub_on(uint8_t *control, size_t control_len);
+
+// One event at the hub. The answer room has MK_ANSWER_SIZE, the message room MK_MESSAGE_SIZE; line and gather are
+// the hub's own and only lent. MK_ADDED, MK_REPEATED, MK_MESSAGE, MK_NOTHING, a refusal from MK_LENGTH to MK_DATA,
+// MK_BARRED or MK_ROOM. The values: the size of the answer, which is to be sent; of a message also its code type
+// and its size. The message room is written at MK_MESSAGE only.
+uint32_t mk_hub_hear(uint8_t *control, size_t control_len, uint8_t line[MK_LINE_SIZE], uint8_t gather[MK_MESSAGE_SIZE],
+    uint8_t *answer, size_t answer_len, uint8_t *message, size_t message_len, uint32_t event, size_t values[3]);
+
+// Makes a sender's control value (MK_SENDER_CONTROL_SIZE): nothing out; failed says whether the message before
+// failed, so that a message gap is due. MK_NOTHING, or MK_ROOM.
+uint32_t mk_sender_idle(uint8_t *control, size_t control_len, bool failed);
+
+// Starts a message, which is copied into the buffer. MK_COPY: the first packet stands in the room (MK_PACKET_SIZE),
+// value is its size. Or MK_ROOM, MK_SENDER.
+uint32_t mk_sender_start(uint8_t *control, size_t control_len, uint8_t buffer[MK_MESSAGE_SIZE], uint8_t *room,
+    size_t room_len, uint8_t code, const uint8_t *message, size_t message_len, size_t *value);
+
+// One thing heard of the host: MK_HEARD_ACK, a NAK's cause, MK_HEARD_TIME_OUT. MK_COPY and the packet's size: the
+// next one, or the same marked, at most twice. MK_DELIVERED or MK_FAILED and the number of marked copies of the
+// whole message. MK_NOTHING, or MK_ROOM.
+uint32_t mk_sender_hear(uint8_t *control, size_t control_len, const uint8_t buffer[MK_MESSAGE_SIZE], uint8_t *room,
+    size_t room_len, uint32_t heard, size_t *value);
+
+// MK_OUT where a message is out, MK_NOTHING where none is, or MK_ROOM.
+uint32_t mk_sender_waits(const uint8_t *control, size_t control_len);
+
+// What a sender hears of a packet with these fields and data, as mk_sender_hear takes it: 0 to MK_HEARD_NOTHING.
+uint32_t mk_sender_heed(uint8_t opcode, uint8_t source, uint8_t status, const uint8_t *data, size_t data_len);
+
+// Makes a reader's control value (MK_READER_CONTROL_SIZE): switched on, house defaults. MK_NOTHING, or MK_ROOM.
+uint32_t mk_reader_on(uint8_t *control, size_t control_len);
+
+// Power-up: parameters get their permanent values, and all that came or was out is forgotten. MK_NOTHING or MK_ROOM.
+uint32_t mk_reader_power_up(uint8_t *control, size_t control_len);
+
+// As mk_sender_start, by the reader's sender.
+uint32_t mk_reader_start(uint8_t *control, size_t control_len, uint8_t message[MK_MESSAGE_SIZE], uint8_t *copy,
+    size_t copy_len, uint8_t code, const uint8_t *bytes, size_t bytes_len, size_t *value);
+
+// As mk_sender_hear with MK_HEARD_TIME_OUT, by the reader's sender.
+uint32_t mk_reader_time_out(uint8_t *control, size_t control_len, const uint8_t message[MK_MESSAGE_SIZE], uint8_t *copy,
+    size_t copy_len, size_t *value);
+
+// One event at the reader. The answer room has MK_READER_ANSWER_SIZE, the copy room MK_PACKET_SIZE; answers keeps
+// the last answer for a resend. MK_ACTED, MK_REPEATED, MK_NOTHING, a refusal from MK_LENGTH to MK_PARAMETER or
+// MK_ROOM. The values: the size of the answer, which is to be sent; the beep's duration, pitch and count (0, 0, 0:
+// none); what the sender made of an ACK or NAK, number and value as of mk_sender_hear.
+uint32_t mk_reader_hear(uint8_t *control, size_t control_len, uint8_t line[MK_LINE_SIZE],
+    uint8_t answers[MK_READER_ANSWER_SIZE], const uint8_t message[MK_MESSAGE_SIZE], uint8_t *answer, size_t answer_len,
+    uint8_t *copy, size_t copy_len, uint32_t event, size_t values[6]);
+
+// The present value of a parameter, 0 where there is no such parameter. MK_NOTHING, or MK_ROOM.
+uint32_t mk_reader_value(const uint8_t *control, size_t control_len, uint8_t number, size_t *value);
+
+// What the commands have switched on, each 1 or 0: scanning, session, aim, LED. MK_NOTHING, or MK_ROOM.
+uint32_t mk_reader_switches(const uint8_t *control, size_t control_len, size_t values[4]);
+
+// ---- machines with their buffers
+//
+// Declare one, initialise it, give it events. One that was never initialised is safe too, as any bytes are a
+// control value: it reads and writes only itself, but may start in mid-packet, barred, or ignoring all up to a gap,
+// and a reader with any parameters. A hub is as good as new at its first message gap. A byte goes in as uint8_t or
+// unsigned char: a negative char would be taken for a message gap.
+
+// The hub.
+typedef struct {
+    uint8_t control[MK_HUB_CONTROL_SIZE];
+    uint8_t line[MK_LINE_SIZE];
+    uint8_t gather[MK_MESSAGE_SIZE];
+    uint8_t answer[MK_ANSWER_SIZE];   // to be sent: so many bytes as told
+    uint8_t message[MK_MESSAGE_SIZE]; // the last message that was whole; stays until the next one is
+} mk_hub;
+
+typedef struct {
+    uint32_t number; // MK_ADDED, MK_REPEATED, MK_MESSAGE, MK_NOTHING or a refusal
+    size_t answer;   // so many bytes of hub.answer are to be sent
+    uint8_t code;    // MK_MESSAGE: its code type
+    size_t count;    // MK_MESSAGE: so many bytes of hub.message
+} mk_hub_told;
+
+static inline void mk_hub_init(mk_hub *hub)
+{
+    mk_hub_on(hub->control, sizeof hub->control);
+}
+
+static inline mk_hub_told mk_hub_event(mk_hub *hub, uint32_t event)
+{
+    size_t values[3];
+    mk_hub_told told;
+    told.number = mk_hub_hear(hub->control, sizeof hub->control, hub->line, hub->gather, hub->answer,
+        sizeof hub->answer, hub->message, sizeof hub->message, event, values);
+    told.answer = values[0];
+    told.code = (uint8_t)values[1];
+    told.count = values[2];
+    return told;
+}
+
+// A framer alone, for those who want the packets themselves.
+typedef struct {
+    uint8_t control[MK_FRAMER_CONTROL_SIZE];
+    uint8_t line[MK_PACKET_SIZE]; // MK_PACKET: the packet, its data from the fifth byte on
+} mk_framer;
+
+typedef struct {
+    size_t length; // of the packet without its checksum, so of the data and 4 more
+    uint8_t opcode;
+    uint8_t source;
+    uint8_t status;
+} mk_head;
+
+typedef struct {
+    uint32_t number; // MK_PACKET, MK_NOTHING, or a refusal from MK_LENGTH to MK_CUT
+    mk_head head;    // MK_PACKET: of the packet in framer.line
+} mk_framer_told;
+
+static inline void mk_framer_init(mk_framer *framer)
+{
+    mk_framer_idle(framer->control, sizeof framer->control);
+}
+
+static inline mk_framer_told mk_framer_event(mk_framer *framer, uint32_t event)
+{
+    size_t head[4];
+    mk_framer_told told;
+    told.number =
+        mk_framer_hear(framer->control, sizeof framer->control, framer->line, sizeof framer->line, event, head);
+    told.head.length = head[0];
+    told.head.opcode = (uint8_t)head[1];
+    told.head.source = (uint8_t)head[2];
+    told.head.status = (uint8_t)head[3];
+    return told;
+}
+
+// A sender alone. Whoever owns the line hears ACK and NAK (mk_sender_heed) and keeps the time.
+typedef struct {
+    uint8_t control[MK_SENDER_CONTROL_SIZE];
+    uint8_t message[MK_MESSAGE_SIZE];
+    uint8_t copy[MK_PACKET_SIZE]; // MK_COPY: the packet to be sent
+} mk_sender;
+
+// What a sender brought, alone or in a reader.
+typedef struct {
+    uint32_t number; // MK_COPY, MK_DELIVERED, MK_FAILED, MK_NOTHING or MK_SENDER
+    size_t value;    // MK_COPY: so many bytes are to be sent; MK_DELIVERED, MK_FAILED: the number of resends
+} mk_sent;
+
+static inline void mk_sender_init(mk_sender *sender)
+{
+    mk_sender_idle(sender->control, sizeof sender->control, false);
+}
+
+// Starts a message.
+static inline mk_sent mk_sender_send(mk_sender *sender, uint8_t code, const uint8_t *bytes, size_t count)
+{
+    mk_sent sent;
+    sent.number = mk_sender_start(sender->control, sizeof sender->control, sender->message, sender->copy,
+        sizeof sender->copy, code, bytes, count, &sent.value);
+    return sent;
+}
+
+// MK_HEARD_ACK, a NAK's cause or MK_HEARD_TIME_OUT.
+static inline mk_sent mk_sender_heard(mk_sender *sender, uint32_t heard)
+{
+    mk_sent sent;
+    sent.number = mk_sender_hear(sender->control, sizeof sender->control, sender->message, sender->copy,
+        sizeof sender->copy, heard, &sent.value);
+    return sent;
+}
+
+// Whether a message is out.
+static inline bool mk_sender_out(const mk_sender *sender)
+{
+    return mk_sender_waits(sender->control, sizeof sender->control) == MK_OUT;
+}
+
+// The reader's whole end: framer, commands with the parameters, sender.
+typedef struct {
+    uint8_t control[MK_READER_CONTROL_SIZE];
+    uint8_t line[MK_LINE_SIZE];
+    uint8_t answers[MK_READER_ANSWER_SIZE];
+    uint8_t message[MK_MESSAGE_SIZE];
+    uint8_t answer[MK_READER_ANSWER_SIZE]; // to be sent: so many bytes as told
+    uint8_t copy[MK_PACKET_SIZE];          // MK_COPY: the packet to be sent
+} mk_reader;
+
+// A sound to be made; with a count of 0 there is none.
+// Durations: 0 short, 1 long, 2 fast warble, 3 slow warble, 4 to 7 mix 1 to mix 4.
+// Pitches: 0 high, 1 low, 2 high-low-high-low, 3 high-low, 4 low-high, 5 high-low-high, 6 low-high-low,
+// 7 high-high-low-low.
+typedef struct {
+    uint8_t duration;
+    uint8_t pitch;
+    uint8_t count;
+} mk_beep;
+
+typedef struct {
+    uint32_t number; // MK_ACTED, MK_REPEATED, MK_NOTHING or a refusal
+    size_t answer;   // so many bytes of reader.answer are to be sent
+    mk_beep beep;    // MK_ACTED: the sound to be made
+    mk_sent sent;    // what the sender made of an ACK or NAK
+} mk_reader_told;
+
+// What the commands have switched on.
+typedef struct {
+    bool scanning;
+    bool session;
+    bool aim;
+    bool led;
+} mk_switches;
+
+// The house defaults, nothing out.
+static inline void mk_reader_init(mk_reader *reader)
+{
+    mk_reader_on(reader->control, sizeof reader->control);
+}
+
+// Power-up: the permanent values of the parameters come back, all else is as new.
+static inline void mk_reader_restart(mk_reader *reader)
+{
+    mk_reader_power_up(reader->control, sizeof reader->control);
+}
+
+static inline mk_reader_told mk_reader_event(mk_reader *reader, uint32_t event)
+{
+    size_t values[6];
+    mk_reader_told told;
+    told.number = mk_reader_hear(reader->control, sizeof reader->control, reader->line, reader->answers,
+        reader->message, reader->answer, sizeof reader->answer, reader->copy, sizeof reader->copy, event, values);
+    told.answer = values[0];
+    told.beep.duration = (uint8_t)values[1];
+    told.beep.pitch = (uint8_t)values[2];
+    told.beep.count = (uint8_t)values[3];
+    told.sent.number = (uint32_t)values[4];
+    told.sent.value = values[5];
+    return told;
+}
+
+// Starts a message.
+static inline mk_sent mk_reader_send(mk_reader *reader, uint8_t code, const uint8_t *bytes, size_t count)
+{
+    mk_sent sent;
+    sent.number = mk_reader_start(reader->control, sizeof reader->control, reader->message, reader->copy,
+        sizeof reader->copy, code, bytes, count, &sent.value);
+    return sent;
+}
+
+// No answer to the last copy came within the response time-out (parameter 9Bh): it is to be sent again, marked, or
+// the message has failed.
+static inline mk_sent mk_reader_expire(mk_reader *reader)
+{
+    mk_sent sent;
+    sent.number = mk_reader_time_out(reader->control, sizeof reader->control, reader->message, reader->copy,
+        sizeof reader->copy, &sent.value);
+    return sent;
+}
+
+// The present value of a parameter, 0 where there is no such parameter.
+static inline uint8_t mk_reader_parameter(const mk_reader *reader, uint8_t number)
+{
+    size_t value;
+    mk_reader_value(reader->control, sizeof reader->control, number, &value);
+    return (uint8_t)value;
+}
+
+static inline mk_switches mk_reader_switched(const mk_reader *reader)
+{
+    size_t values[4];
+    mk_switches on;
+    mk_reader_switches(reader->control, sizeof reader->control, values);
+    on.scanning = values[0] == 1;
+    on.session = values[1] == 1;
+    on.aim = values[2] == 1;
+    on.led = values[3] == 1;
+    return on;
+}
+
+#ifdef __cplusplus
+}
+#endif
+
+#endif

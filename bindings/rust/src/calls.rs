@@ -1,0 +1,210 @@
+//! Each call of the library once, over slices and arrays. This is the only unsafe code of the crate.
+//!
+//! Why it is sound (the rule that each SAFETY comment names): every pointer comes from a reference that lives through
+//! the call, with the slice's own length; `&mut` says that no two of them overlap. The library takes any bytes, and
+//! reads and writes only what it is lent; that is proved of it in `crates/exports`. It keeps no pointer.
+//!
+//! Each gives the library's number, and the values that were told with it.
+
+use crate::raw;
+
+pub(crate) fn check(bytes: &[u8]) -> (u32, [usize; 4]) {
+    let mut head = [0; 4];
+    // SAFETY: the rule above.
+    let number = unsafe { raw::mk_check(bytes.as_ptr(), bytes.len(), &mut head) };
+    (number, head)
+}
+
+pub(crate) fn build(room: &mut [u8], opcode: u8, source: u8, status: u8, data: &[u8]) -> (u32, usize) {
+    let mut size = 0;
+    let (to, from) = (room.as_mut_ptr(), data.as_ptr());
+    // SAFETY: the rule above.
+    let number = unsafe { raw::mk_build(to, room.len(), opcode, source, status, from, data.len(), &mut size) };
+    (number, size)
+}
+
+pub(crate) fn answer(room: &mut [u8], source: u8, reply: u32) -> (u32, usize) {
+    let mut size = 0;
+    // SAFETY: the rule above.
+    let number = unsafe { raw::mk_answer(room.as_mut_ptr(), room.len(), source, reply, &mut size) };
+    (number, size)
+}
+
+pub(crate) fn framer_idle(control: &mut [u8]) -> u32 {
+    // SAFETY: the rule above.
+    unsafe { raw::mk_framer_idle(control.as_mut_ptr(), control.len()) }
+}
+
+pub(crate) fn framer_hear(control: &mut [u8], line: &mut [u8], event: u32) -> (u32, [usize; 4]) {
+    let mut head = [0; 4];
+    let (state, to) = (control.as_mut_ptr(), line.as_mut_ptr());
+    // SAFETY: the rule above.
+    let number = unsafe { raw::mk_framer_hear(state, control.len(), to, line.len(), event, &mut head) };
+    (number, head)
+}
+
+pub(crate) fn hub_on(control: &mut [u8]) -> u32 {
+    // SAFETY: the rule above.
+    unsafe { raw::mk_hub_on(control.as_mut_ptr(), control.len()) }
+}
+
+pub(crate) fn hub_hear(
+    control: &mut [u8],
+    line: &mut [u8; 514],
+    gather: &mut [u8; 4096],
+    answer: &mut [u8],
+    message: &mut [u8],
+    event: u32,
+) -> (u32, [usize; 3]) {
+    let mut values = [0; 3];
+    // SAFETY: the rule above.
+    let number = unsafe {
+        raw::mk_hub_hear(
+            control.as_mut_ptr(),
+            control.len(),
+            line,
+            gather,
+            answer.as_mut_ptr(),
+            answer.len(),
+            message.as_mut_ptr(),
+            message.len(),
+            event,
+            &mut values,
+        )
+    };
+    (number, values)
+}
+
+pub(crate) fn sender_idle(control: &mut [u8], failed: bool) -> u32 {
+    // SAFETY: the rule above.
+    unsafe { raw::mk_sender_idle(control.as_mut_ptr(), control.len(), failed) }
+}
+
+pub(crate) fn sender_start(
+    control: &mut [u8],
+    buffer: &mut [u8; 4096],
+    room: &mut [u8],
+    code: u8,
+    message: &[u8],
+) -> (u32, usize) {
+    let mut value = 0;
+    // SAFETY: the rule above.
+    let number = unsafe {
+        raw::mk_sender_start(
+            control.as_mut_ptr(),
+            control.len(),
+            buffer,
+            room.as_mut_ptr(),
+            room.len(),
+            code,
+            message.as_ptr(),
+            message.len(),
+            &mut value,
+        )
+    };
+    (number, value)
+}
+
+pub(crate) fn sender_hear(control: &mut [u8], buffer: &[u8; 4096], room: &mut [u8], heard: u32) -> (u32, usize) {
+    let mut value = 0;
+    let (state, to) = (control.as_mut_ptr(), room.as_mut_ptr());
+    // SAFETY: the rule above.
+    let number = unsafe { raw::mk_sender_hear(state, control.len(), buffer, to, room.len(), heard, &mut value) };
+    (number, value)
+}
+
+pub(crate) fn sender_waits(control: &[u8]) -> u32 {
+    // SAFETY: the rule above.
+    unsafe { raw::mk_sender_waits(control.as_ptr(), control.len()) }
+}
+
+pub(crate) fn sender_heed(opcode: u8, source: u8, status: u8, data: &[u8]) -> u32 {
+    // SAFETY: the rule above.
+    unsafe { raw::mk_sender_heed(opcode, source, status, data.as_ptr(), data.len()) }
+}
+
+pub(crate) fn reader_on(control: &mut [u8]) -> u32 {
+    // SAFETY: the rule above.
+    unsafe { raw::mk_reader_on(control.as_mut_ptr(), control.len()) }
+}
+
+pub(crate) fn reader_power_up(control: &mut [u8]) -> u32 {
+    // SAFETY: the rule above.
+    unsafe { raw::mk_reader_power_up(control.as_mut_ptr(), control.len()) }
+}
+
+pub(crate) fn reader_start(
+    control: &mut [u8],
+    message: &mut [u8; 4096],
+    copy: &mut [u8],
+    code: u8,
+    bytes: &[u8],
+) -> (u32, usize) {
+    let mut value = 0;
+    // SAFETY: the rule above.
+    let number = unsafe {
+        raw::mk_reader_start(
+            control.as_mut_ptr(),
+            control.len(),
+            message,
+            copy.as_mut_ptr(),
+            copy.len(),
+            code,
+            bytes.as_ptr(),
+            bytes.len(),
+            &mut value,
+        )
+    };
+    (number, value)
+}
+
+pub(crate) fn reader_time_out(control: &mut [u8], message: &[u8; 4096], copy: &mut [u8]) -> (u32, usize) {
+    let mut value = 0;
+    let (state, to) = (control.as_mut_ptr(), copy.as_mut_ptr());
+    // SAFETY: the rule above.
+    let number = unsafe { raw::mk_reader_time_out(state, control.len(), message, to, copy.len(), &mut value) };
+    (number, value)
+}
+
+pub(crate) fn reader_hear(
+    control: &mut [u8],
+    line: &mut [u8; 514],
+    answers: &mut [u8; 25],
+    message: &[u8; 4096],
+    answer: &mut [u8],
+    copy: &mut [u8],
+    event: u32,
+) -> (u32, [usize; 6]) {
+    let mut values = [0; 6];
+    // SAFETY: the rule above.
+    let number = unsafe {
+        raw::mk_reader_hear(
+            control.as_mut_ptr(),
+            control.len(),
+            line,
+            answers,
+            message,
+            answer.as_mut_ptr(),
+            answer.len(),
+            copy.as_mut_ptr(),
+            copy.len(),
+            event,
+            &mut values,
+        )
+    };
+    (number, values)
+}
+
+pub(crate) fn reader_value(control: &[u8], number: u8) -> (u32, usize) {
+    let mut value = 0;
+    // SAFETY: the rule above.
+    let told = unsafe { raw::mk_reader_value(control.as_ptr(), control.len(), number, &mut value) };
+    (told, value)
+}
+
+pub(crate) fn reader_switches(control: &[u8]) -> (u32, [usize; 4]) {
+    let mut values = [0; 4];
+    // SAFETY: the rule above.
+    let told = unsafe { raw::mk_reader_switches(control.as_ptr(), control.len(), &mut values) };
+    (told, values)
+}

@@ -1,0 +1,48 @@
+//! The framer with its buffers.
+
+use crate::buffer::{control, Buffer};
+use crate::lent::framer::{self, CONTROL, LINE};
+use crate::packet::Head;
+use crate::{Event, Refusal};
+
+/// What an event ended.
+#[must_use]
+#[derive(Clone, Copy, Debug, PartialEq, Eq)]
+pub enum Found<'a> {
+    /// Nothing.
+    Nothing,
+    /// A packet.
+    Packet {
+        /// Its head.
+        head: Head,
+        /// All its bytes, checksum too.
+        packet: &'a [u8],
+    },
+    /// 1, 2 or 3; of a lent framer also 13.
+    Refused(Refusal),
+}
+
+/// Bytes and gaps of a line into packets, one event at a time.
+#[derive(Clone, Debug, PartialEq, Eq)]
+pub struct Framer {
+    control: [u8; CONTROL],
+    line: Buffer<LINE>,
+}
+
+impl Framer {
+    /// A framer with nothing begun.
+    pub fn new() -> Self {
+        Framer { control: control(framer::idle), line: Buffer::new() }
+    }
+
+    /// One event.
+    pub fn hear(&mut self, event: Event) -> Found<'_> {
+        framer::hear(&mut self.control, &mut self.line.0, event)
+    }
+}
+
+impl Default for Framer {
+    fn default() -> Self {
+        Self::new()
+    }
+}

@@ -1,0 +1,56 @@
+//! Refusals by name and number.
+
+/// Why a call or a packet is refused. The numbers are those of document 01; 12 is unused.
+#[derive(Clone, Copy, Debug, PartialEq, Eq, PartialOrd, Ord, Hash)]
+pub enum Refusal {
+    /// Length below 4.
+    Length = 1,
+    /// Checksum wrong.
+    Checksum = 2,
+    /// Cut by a gap, or too few bytes.
+    Cut = 3,
+    /// Wrong source for this side.
+    Source = 4,
+    /// A status bit not allowed.
+    Status = 5,
+    /// Opcode unknown to this side.
+    Opcode = 6,
+    /// Data length wrong for the opcode.
+    Data = 7,
+    /// Beep code not allowed.
+    Beep = 8,
+    /// Parameter or value not allowed.
+    Setting = 9,
+    /// Hub: barred, other code type, or too long.
+    Barred = 10,
+    /// Sender: message over 4,096 bytes, or one still out.
+    Start = 11,
+    /// Lent room too small; the event is not taken.
+    Room = 13,
+}
+
+impl Refusal {
+    /// The refusal's number.
+    pub fn number(self) -> u32 {
+        self as u32
+    }
+
+    /// The refusal with this number, if it is one's.
+    pub fn from_number(number: u32) -> Option<Refusal> {
+        Some(match number {
+            1 => Refusal::Length,
+            2 => Refusal::Checksum,
+            3 => Refusal::Cut,
+            4 => Refusal::Source,
+            5 => Refusal::Status,
+            6 => Refusal::Opcode,
+            7 => Refusal::Data,
+            8 => Refusal::Beep,
+            9 => Refusal::Setting,
+            10 => Refusal::Barred,
+            11 => Refusal::Start,
+            13 => Refusal::Room,
+            _ => return None,
+        })
+    }
+}

@@ -1,0 +1,211 @@
+//! The raw calls over fenced buffers, and what the safe ones told as the numbers that the raw ones give, to be
+//! compared.
+
+use motikhund::packet::Head;
+use motikhund::{raw, Event, Found, HubTold, Outcome, ReaderTold, Refusal};
+
+use crate::dice::Dice;
+use crate::fenced::Fenced;
+
+/// What no call leaves in the values.
+const JUNK: usize = usize::MAX;
+
+/// Any number that the library takes for this event.
+pub fn event_number(dice: &mut Dice, event: Event) -> u32 {
+    match event {
+        Event::Byte(byte) => byte.into(),
+        Event::CharacterGap => 256,
+        Event::MessageGap => 257 + dice.below(4_294_967_039) as u32,
+    }
+}
+
+// ---- the raw calls
+
+pub fn check(bytes: &[u8]) -> (u32, [usize; 4]) {
+    let mut head = [JUNK; 4];
+    let number = unsafe { raw::mk_check(bytes.as_ptr(), bytes.len(), &mut head) };
+    (number, head)
+}
+
+pub fn build(room: &mut Fenced, [opcode, source, status]: [u8; 3], data: &[u8]) -> (u32, usize) {
+    let (room, mut size) = (room.lent(), JUNK);
+    let (to, from) = (room.as_mut_ptr(), data.as_ptr());
+    let number = unsafe { raw::mk_build(to, room.len(), opcode, source, status, from, data.len(), &mut size) };
+    (number, size)
+}
+
+pub fn answer(room: &mut Fenced, source: u8, reply: u32) -> (u32, usize) {
+    let (room, mut size) = (room.lent(), JUNK);
+    let number = unsafe { raw::mk_answer(room.as_mut_ptr(), room.len(), source, reply, &mut size) };
+    (number, size)
+}
+
+pub fn framer([control, line]: &mut [Fenced; 2], event: u32) -> (u32, [usize; 4]) {
+    let (control, line, mut head) = (control.lent(), line.lent(), [JUNK; 4]);
+    let (state, to) = (control.as_mut_ptr(), line.as_mut_ptr());
+    let number = unsafe { raw::mk_framer_hear(state, control.len(), to, line.len(), event, &mut head) };
+    (number, head)
+}
+
+pub fn hub([control, line, gather, answer, message]: &mut [Fenced; 5], event: u32) -> (u32, [usize; 3]) {
+    let (control, answer, message, mut values) = (control.lent(), answer.lent(), message.lent(), [JUNK; 3]);
+    let number = unsafe {
+        raw::mk_hub_hear(
+            control.as_mut_ptr(),
+            control.len(),
+            line.array(),
+            gather.array(),
+            answer.as_mut_ptr(),
+            answer.len(),
+            message.as_mut_ptr(),
+            message.len(),
+            event,
+            &mut values,
+        )
+    };
+    (number, values)
+}
+
+pub fn sender_start([control, buffer, copy]: &mut [Fenced; 3], code: u8, message: &[u8]) -> (u32, usize) {
+    let (control, copy, mut value) = (control.lent(), copy.lent(), JUNK);
+    let (state, room, from) = (control.as_mut_ptr(), copy.as_mut_ptr(), message.as_ptr());
+    let buffer = buffer.array();
+    let number = unsafe {
+        raw::mk_sender_start(state, control.len(), buffer, room, copy.len(), code, from, message.len(), &mut value)
+    };
+    (number, value)
+}
+
+pub fn sender_hear([control, buffer, copy]: &mut [Fenced; 3], heard: u32) -> (u32, usize) {
+    let (control, copy, mut value) = (control.lent(), copy.lent(), JUNK);
+    let (state, room) = (control.as_mut_ptr(), copy.as_mut_ptr());
+    let buffer = buffer.array();
+    let number = unsafe { raw::mk_sender_hear(state, control.len(), buffer, room, copy.len(), heard, &mut value) };
+    (number, value)
+}
+
+pub fn sender_waits(control: &mut Fenced) -> u32 {
+    let control = control.lent();
+    unsafe { raw::mk_sender_waits(control.as_ptr(), control.len()) }
+}
+
+/// Control bytes, line, kept answer, message, answer room, copy room.
+pub type Reader = [Fenced; 6];
+
+pub fn reader_start([control, _, _, message, _, copy]: &mut Reader, code: u8, bytes: &[u8]) -> (u32, usize) {
+    let (control, copy, mut value) = (control.lent(), copy.lent(), JUNK);
+    let (state, room, from) = (control.as_mut_ptr(), copy.as_mut_ptr(), bytes.as_ptr());
+    let message = message.array();
+    let number = unsafe {
+        raw::mk_reader_start(state, control.len(), message, room, copy.len(), code, from, bytes.len(), &mut value)
+    };
+    (number, value)
+}
+
+pub fn reader_time_out([control, _, _, message, _, copy]: &mut Reader) -> (u32, usize) {
+    let (control, copy, mut value) = (control.lent(), copy.lent(), JUNK);
+    let (state, room) = (control.as_mut_ptr(), copy.as_mut_ptr());
+    let message = message.array();
+    let number = unsafe { raw::mk_reader_time_out(state, control.len(), message, room, copy.len(), &mut value) };
+    (number, value)
+}
+
+pub fn reader_power_up([control, ..]: &mut Reader) -> u32 {
+    let control = control.lent();
+    unsafe { raw::mk_reader_power_up(control.as_mut_ptr(), control.len()) }
+}
+
+pub fn reader_hear([control, line, answers, message, answer, copy]: &mut Reader, event: u32) -> (u32, [usize; 6]) {
+    let (control, answer, copy, mut values) = (control.lent(), answer.lent(), copy.lent(), [JUNK; 6]);
+    let number = unsafe {
+        raw::mk_reader_hear(
+            control.as_mut_ptr(),
+            control.len(),
+            line.array(),
+            answers.array(),
+            message.array(),
+            answer.as_mut_ptr(),
+            answer.len(),
+            copy.as_mut_ptr(),
+            copy.len(),
+            event,
+            &mut values,
+        )
+    };
+    (number, values)
+}
+
+pub fn reader_value([control, ..]: &mut Reader, number: u8) -> (u32, usize) {
+    let (control, mut value) = (control.lent(), JUNK);
+    let told = unsafe { raw::mk_reader_value(control.as_ptr(), control.len(), number, &mut value) };
+    (told, value)
+}
+
+// ---- the same numbers, of what the safe calls told
+
+fn of_head(head: Head) -> [usize; 4] {
+    [head.length, head.opcode.into(), head.source.into(), head.status.into()]
+}
+
+pub fn of_checked(checked: Result<Head, Refusal>) -> (u32, [usize; 4]) {
+    match checked {
+        Ok(head) => (100, of_head(head)),
+        Err(why) => (why.number(), [0; 4]),
+    }
+}
+
+pub fn of_built(built: Result<&[u8], Refusal>) -> (u32, usize) {
+    match built {
+        Ok(written) => (101, written.len()),
+        Err(why) => (why.number(), 0),
+    }
+}
+
+pub fn of_found(found: Found<'_>) -> (u32, [usize; 4]) {
+    match found {
+        Found::Nothing => (0, [0; 4]),
+        Found::Packet { head, packet } => {
+            assert_eq!(packet.len(), head.length + 2);
+            (100, of_head(head))
+        }
+        Found::Refused(why) => (why.number(), [0; 4]),
+    }
+}
+
+pub fn of_hub(told: HubTold<'_>) -> (u32, [usize; 3]) {
+    let answer = told.answer().len();
+    match told {
+        HubTold::Nothing => (0, [0; 3]),
+        HubTold::Added { .. } => (110, [answer, 0, 0]),
+        HubTold::Repeated { .. } => (111, [answer, 0, 0]),
+        HubTold::Message { code, message, .. } => (112, [answer, code.into(), message.len()]),
+        HubTold::Refused { why, .. } => (why.number(), [answer, 0, 0]),
+    }
+}
+
+pub fn of_outcome(outcome: Outcome<'_>) -> (u32, usize) {
+    match outcome {
+        Outcome::Nothing => (0, 0),
+        Outcome::Copy(copy) => (120, copy.len()),
+        Outcome::Delivered { copies } => (121, copies),
+        Outcome::Failed { copies } => (122, copies),
+        Outcome::Refused(why) => (why.number(), 0),
+    }
+}
+
+pub fn of_reader(told: ReaderTold<'_>) -> (u32, [usize; 6]) {
+    let answer = told.answer().len();
+    match told {
+        ReaderTold::Nothing => (0, [0; 6]),
+        ReaderTold::Acted { beep, .. } => {
+            let row = beep.map_or([0; 3], |beep| [beep.duration, beep.pitch, beep.number]).map(usize::from);
+            (130, [answer, row[0], row[1], row[2], 0, 0])
+        }
+        ReaderTold::Repeated { .. } => (111, [answer, 0, 0, 0, 0, 0]),
+        ReaderTold::Refused { why, .. } => (why.number(), [answer, 0, 0, 0, 0, 0]),
+        ReaderTold::Sent(outcome) => {
+            let (number, value) = of_outcome(outcome);
+            (0, [0, 0, 0, 0, number as usize, value])
+        }
+    }
+}

@@ -1,0 +1,88 @@
+//! The ten cases of document 01.
+
+use motikhund::packet::{answer, build, check, Head, DECODE_DATA, HOST, MORE, PARAM_REQUEST, PARAM_SEND, READER};
+use motikhund::{Heard, Hub, HubTold, Outcome, Reader, ReaderTold, Refusal, Reply, Sender};
+
+use crate::notation::{bytes, hub_ack, hub_hears, reader_ack, reader_hears, sent};
+
+const CASE_5: &str = "06 F3 00 00 1B 38 FE B4";
+const CASE_6: &str = "05 F3 00 00 1B FE ED";
+const CASE_7: &str = "07 C6 04 00 FF 8A 08 FD 9E";
+const CASE_8: &str = "05 C7 04 00 8A FE A6";
+const ANSWER_8: &str = "07 C6 00 00 FF 8A 08 FD A2";
+
+#[test]
+fn cases_1_to_4_are_the_answers() {
+    let cases = [
+        ("04 D0 04 00 FF 28", HOST, Reply::Ack),
+        ("04 D0 00 00 FF 2C", READER, Reply::Ack),
+        ("05 D1 04 00 01 FF 25", HOST, Reply::Nak(1)),
+        ("05 D1 00 00 06 FF 24", READER, Reply::Nak(6)),
+    ];
+    for (text, source, reply) in cases {
+        assert_eq!(answer(&mut [0; 7], source, reply), Ok(&bytes(text)[..]));
+    }
+}
+
+#[test]
+fn cases_5_to_8_are_built_and_checked() {
+    let cases: [(&str, u8, u8, &[u8]); 5] = [
+        (CASE_5, DECODE_DATA, READER, &[0x1B, 0x38]),
+        (CASE_6, DECODE_DATA, READER, &[0x1B]),
+        (CASE_7, PARAM_SEND, HOST, &[0xFF, 0x8A, 8]),
+        (CASE_8, PARAM_REQUEST, HOST, &[0x8A]),
+        (ANSWER_8, PARAM_SEND, READER, &[0xFF, 0x8A, 8]),
+    ];
+    for (text, opcode, source, data) in cases {
+        let whole = bytes(text);
+        assert_eq!(build(&mut [0; 257], opcode, source, 0, data), Ok(&whole[..]));
+        let head = Head { length: whole.len() - 2, opcode, source, status: 0 };
+        assert_eq!(check(&whole), Ok(head));
+        assert_eq!(head.data(&whole), data);
+        assert_eq!(head.data(&whole[..3]), []);
+    }
+}
+
+#[test]
+fn cases_5_and_6_are_sent_and_handed_out() {
+    for (text, card) in [(CASE_5, &b"8"[..]), (CASE_6, b"")] {
+        assert_eq!(Sender::new().start(0x1B, card), Outcome::Copy(&bytes(text)));
+        let whole = HubTold::Message { code: 0x1B, message: card, answer: &hub_ack() };
+        assert_eq!(hub_hears(&mut Hub::new(), &sent(&bytes(text))), whole);
+    }
+}
+
+#[test]
+fn case_8_is_answered_after_case_7() {
+    let mut reader = Reader::new();
+    let accepted = ReaderTold::Acted { beep: None, answer: &reader_ack() };
+    assert_eq!(reader_hears(&mut reader, &sent(&bytes(CASE_7))), accepted);
+    let answered = ReaderTold::Acted { beep: None, answer: &bytes(ANSWER_8) };
+    assert_eq!(reader_hears(&mut reader, &sent(&bytes(CASE_8))), answered);
+}
+
+/// The status and the size of the piece of each packet, each acknowledged at once.
+fn pieces(size: usize) -> Vec<(u8, usize)> {
+    let mut sender = Sender::new();
+    let mut pieces = Vec::new();
+    let mut outcome = sender.start(0x1B, &vec![0x38; size]);
+    while let Outcome::Copy(copy) = outcome {
+        let head = check(copy).expect("a packet");
+        pieces.push((head.status, head.data(copy).len() - 1));
+        outcome = sender.hear(Heard::Ack);
+    }
+    assert_eq!(outcome, Outcome::Delivered { copies: 0 });
+    assert!(!sender.waits());
+    pieces
+}
+
+#[test]
+fn cases_9_and_10_are_cut_into_pieces() {
+    assert_eq!(pieces(250), [(0, 250)]);
+    assert_eq!(pieces(251), [(MORE, 250), (0, 1)]);
+    let long = pieces(4_096);
+    assert_eq!(long.len(), 17);
+    assert_eq!(long[..16], [(MORE, 250); 16]);
+    assert_eq!(long[16], (0, 96));
+    assert_eq!(Sender::new().start(0x1B, &[0x38; 4_097]), Outcome::Refused(Refusal::Start));
+}

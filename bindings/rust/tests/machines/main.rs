@@ -1,0 +1,17 @@
+//! The crate's tests, through its safe types and their lent forms.
+
+mod bare;
+mod beeps;
+mod cases;
+mod conversions;
+mod dice;
+mod fenced;
+mod garbage;
+mod messages;
+mod notation;
+mod owners;
+mod parameters;
+mod refusals;
+mod rooms;
+mod story;
+mod streams;

@@ -1,0 +1,102 @@
+//! The owning types do as their lent forms, and are values like others.
+
+use motikhund::lent::{framer, hub, reader, sender};
+use motikhund::{Event, Found, Framer, Heard, Hub, HubTold, Outcome, Reader, ReaderTold, Sender};
+
+use crate::dice::Dice;
+use crate::streams::{Side, Stream};
+
+const EVENTS: usize = 20_000;
+
+#[test]
+fn a_framer() {
+    let (mut dice, mut stream) = (Dice::new(1), Stream::new(Side::Reader));
+    let (mut control, mut line) = ([0xFF; framer::CONTROL], [0; framer::LINE]);
+    assert_eq!(framer::idle(&mut control), Ok(()));
+    let mut owner = Framer::new();
+    for _ in 0..EVENTS {
+        let event = stream.next(&mut dice);
+        assert_eq!(owner.hear(event), framer::hear(&mut control, &mut line, event));
+    }
+}
+
+#[test]
+fn a_hub() {
+    let (mut dice, mut stream) = (Dice::new(2), Stream::new(Side::Hub));
+    let (mut control, mut line, mut gather) = ([0xFF; hub::CONTROL], [0; hub::LINE], [0; hub::MESSAGE]);
+    let (mut answer, mut message) = ([0; hub::ANSWER], [0; hub::MESSAGE]);
+    assert_eq!(hub::on(&mut control), Ok(()));
+    let mut owner = Hub::new();
+    for _ in 0..EVENTS {
+        let event = stream.next(&mut dice);
+        let told = hub::hear(&mut control, &mut line, &mut gather, &mut answer, &mut message, event);
+        assert_eq!(owner.hear(event), told);
+    }
+}
+
+#[test]
+fn a_sender() {
+    let mut dice = Dice::new(3);
+    let (mut control, mut buffer, mut copy) = ([0xFF; sender::CONTROL], [0; sender::MESSAGE], [0; sender::COPY]);
+    assert_eq!(sender::idle(&mut control, true), Ok(()));
+    let mut owner = Sender::idle(true);
+    for _ in 0..EVENTS {
+        assert_eq!(Ok(owner.waits()), sender::waits(&control));
+        let size = dice.pick(&[0, 1, 251, 1_000]);
+        let card = dice.bytes(size);
+        if dice.chance(20) {
+            let outcome = sender::start(&mut control, &mut buffer, &mut copy, 0x1B, &card);
+            assert_eq!(owner.start(0x1B, &card), outcome);
+        } else {
+            let heard = dice.pick(&[Heard::Ack, Heard::Ack, Heard::Nak(1), Heard::Nak(2), Heard::TimeOut]);
+            assert_eq!(owner.hear(heard), sender::hear(&mut control, &buffer, &mut copy, heard));
+        }
+    }
+}
+
+#[test]
+fn a_reader() {
+    let (mut dice, mut stream) = (Dice::new(4), Stream::new(Side::Reader));
+    let (mut control, mut line, mut answers) = ([0xFF; reader::CONTROL], [0; reader::LINE], [0; reader::ANSWER]);
+    let (mut message, mut answer, mut copy) = ([0; reader::MESSAGE], [0; reader::ANSWER], [0; reader::COPY]);
+    assert_eq!(reader::on(&mut control), Ok(()));
+    let mut owner = Reader::new();
+    for _ in 0..EVENTS {
+        match dice.below(60) {
+            0 => {
+                let card = dice.bytes(300);
+                let outcome = reader::start(&mut control, &mut message, &mut copy, 0x1B, &card);
+                assert_eq!(owner.start(0x1B, &card), outcome);
+            }
+            1 => assert_eq!(owner.time_out(), reader::time_out(&mut control, &message, &mut copy)),
+            2 if dice.chance(20) => {
+                owner.power_up();
+                assert_eq!(reader::power_up(&mut control), Ok(()));
+            }
+            _ => {
+                let event = stream.next(&mut dice);
+                let (line, answers) = (&mut line, &mut answers);
+                let told = reader::hear(&mut control, line, answers, &message, &mut answer, &mut copy, event);
+                assert_eq!(owner.hear(event), told);
+            }
+        }
+        assert_eq!(owner.control(), &control);
+        assert_eq!(Ok(owner.switches()), reader::switches(&control));
+        assert_eq!(Ok(owner.value(0x89)), reader::value(&control, 0x89));
+    }
+}
+
+#[test]
+fn they_are_values() {
+    let (mut framer, mut hub, mut reader, mut sender) = <(Framer, Hub, Reader, Sender)>::default();
+    assert_eq!((&framer, &hub, &reader, &sender), (&Framer::new(), &Hub::new(), &Reader::new(), &Sender::new()));
+    assert_ne!(sender, Sender::idle(true));
+    let before = (framer.clone(), hub.clone(), reader.clone(), sender.clone());
+    let begun = Event::Byte(4);
+    assert_eq!((framer.hear(begun), hub.hear(begun)), (Found::Nothing, HubTold::Nothing));
+    assert_eq!(reader.hear(begun), ReaderTold::Nothing);
+    assert!(matches!(sender.start(0, &[]), Outcome::Copy(_)));
+    assert!(framer != before.0 && hub != before.1 && reader != before.2 && sender != before.3);
+    assert!(format!("{hub:?}").contains("line: 514 bytes"));
+    assert!(format!("{:?}", Sender::idle(true)).contains("control: [0, 0, 1, 0, "));
+}

@@ -1,0 +1,112 @@
+//! Present and permanent values.
+
+use motikhund::packet::{HOST, PARAM_DEFAULTS, PARAM_REQUEST, PARAM_SEND, PERMANENT, READER, RESEND};
+use motikhund::{Event, Reader, ReaderTold, Refusal};
+
+use crate::notation::{command, nak, packet, reader_ack, reader_hears, sent};
+
+/// Parameter, lowest, highest, house default.
+const ROWS: [[u8; 4]; 9] = [
+    [0x80, 0, 1, 0],
+    [0x89, 0, 99, 10],
+    [0x8A, 0, 8, 0],
+    [0x9B, 0, 99, 20],
+    [0x9C, 1, 7, 6],
+    [0x9E, 0, 4, 4],
+    [0x9F, 0, 1, 1],
+    [0xED, 0, 99, 0],
+    [0xEE, 0, 1, 1],
+];
+
+fn set(status: u8, pairs: &[u8]) -> Vec<u8> {
+    packet(PARAM_SEND, HOST, status, &[&[0xFF], pairs].concat())
+}
+
+/// An ACK was the answer.
+fn acted(reader: &mut Reader, packet: &[u8]) {
+    let told = reader_hears(reader, &sent(packet));
+    assert_eq!(told, ReaderTold::Acted { beep: None, answer: &reader_ack() });
+}
+
+fn values(reader: &Reader) -> [u8; 9] {
+    ROWS.map(|[number, ..]| reader.value(number))
+}
+
+#[test]
+fn the_house_defaults() {
+    let mut reader = Reader::new();
+    let defaults = ROWS.map(|[.., default]| default);
+    assert_eq!(values(&reader), defaults);
+    let others = (0..=255).filter(|number| ROWS.iter().all(|row| row[0] != *number));
+    assert!(others.clone().count() == 247 && others.clone().all(|number| reader.value(number) == 0));
+    let pairs: Vec<u8> = ROWS.iter().flat_map(|[number, _, _, default]| [*number, *default]).collect();
+    let all = packet(PARAM_SEND, READER, 0, &[&[0xFF], &pairs[..]].concat());
+    assert_eq!(all.len(), 25);
+    let told = reader_hears(&mut reader, &sent(&command(PARAM_REQUEST, &[0xFE])));
+    assert_eq!(told, ReaderTold::Acted { beep: None, answer: &all });
+}
+
+#[test]
+fn present_and_permanent_over_a_power_up() {
+    let mut reader = Reader::new();
+    acted(&mut reader, &set(0, &[0x89, 5, 0x89, 7]));
+    assert_eq!(reader.value(0x89), 7);
+    reader.power_up();
+    assert_eq!(reader.value(0x89), 10);
+    acted(&mut reader, &set(PERMANENT, &[0x89, 9]));
+    acted(&mut reader, &set(0, &[0x89, 7]));
+    assert_eq!(reader.value(0x89), 7);
+    assert_eq!(Reader::powered_up(*reader.control()).value(0x89), 9);
+    reader.power_up();
+    assert_eq!(reader.value(0x89), 9);
+    acted(&mut reader, &command(PARAM_DEFAULTS, &[]));
+    reader.power_up();
+    assert_eq!(reader.value(0x89), 10);
+}
+
+#[test]
+fn power_up_forgets_the_last_accepted_packet_and_the_packet_begun() {
+    let mut reader = Reader::new();
+    let again = set(RESEND, &[0x89, 5]);
+    acted(&mut reader, &set(0, &[0x89, 5]));
+    assert_eq!(reader_hears(&mut reader, &sent(&again)), ReaderTold::Repeated { answer: &reader_ack() });
+    assert_eq!(reader_hears(&mut reader, &sent(&again[..4])), ReaderTold::Nothing);
+    reader.power_up();
+    acted(&mut reader, &again);
+}
+
+/// Each range's ends and their outer neighbours; one bad pair refuses the packet.
+#[test]
+fn all_or_nothing() {
+    let refused = ReaderTold::Refused { why: Refusal::Setting, answer: &nak(READER, 6) };
+    let bad = ROWS.iter().flat_map(|[number, low, high, _]| [(*number, low.wrapping_sub(1)), (*number, high + 1)]);
+    for (number, value) in bad.chain([(0x8A, 1), (0x81, 0)]) {
+        let mut reader = Reader::new();
+        let told = reader_hears(&mut reader, &sent(&set(PERMANENT, &[0x89, 5, number, value, 0x9B, 3])));
+        assert_eq!(told, refused, "{number:02X} {value}");
+        assert_eq!(reader.control()[26..44], Reader::new().control()[26..44]);
+    }
+    for [number, low, high, _] in ROWS {
+        for value in [low, high] {
+            let mut reader = Reader::new();
+            acted(&mut reader, &set(0, &[number, value]));
+            assert_eq!(reader.value(number), value);
+        }
+    }
+}
+
+/// ACK and NAK go out only if 9Fh was 1 before the packet; a resend is answered with the bytes of then.
+#[test]
+fn without_handshaking() {
+    let mut reader = Reader::new();
+    acted(&mut reader, &set(0, &[0x9F, 0]));
+    let again = reader_hears(&mut reader, &sent(&set(RESEND, &[0x9F, 0])));
+    assert_eq!(again, ReaderTold::Repeated { answer: &reader_ack() });
+    let short = reader.hear(Event::Byte(3));
+    assert_eq!(short, ReaderTold::Refused { why: Refusal::Length, answer: &[] });
+    assert_eq!(reader.hear(Event::CharacterGap), ReaderTold::Nothing);
+    let on = reader_hears(&mut reader, &sent(&set(0, &[0x9F, 1])));
+    assert_eq!(on, ReaderTold::Acted { beep: None, answer: &[] });
+    let again = reader_hears(&mut reader, &sent(&set(RESEND, &[0x9F, 1])));
+    assert_eq!(again, ReaderTold::Repeated { answer: &[] });
+}

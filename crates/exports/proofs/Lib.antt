@@ -1,0 +1,5 @@
+pub mod Calls
+pub mod Reading
+pub mod Storing
+pub mod Telling
+pub mod Unique

@@ -1,0 +1,23 @@
+-- `exports::mk_build` meets its contract: building, as numbers. Assumes nothing.
+use Rattle.exports.proofs.Calls.{packet-builds}
+use borrow.Author.Needs.{needs}
+use Rattle.exports.proofs.mk_build.Statement.{statement}
+use Rattle.exports.proofs.mk_build.Tie as tie
+
+build-requires : tie.Need-build-requires
+build-requires c κs = search needs
+
+built-size-requires : tie.Need-built-size-requires
+built-size-requires c κs = search needs
+
+built-requires : tie.Need-built-requires
+built-requires c κs = search needs
+
+same-length : tie.Need-same-length
+same-length c = search needs
+
+returns : tie.Need-returns
+returns c = packet-builds (c .before .before .before .before .build .ensures) (c .built .ensures) (c .before .built-size .ensures)
+
+pub mk-build-spec : {M : Type 1} → statement M
+mk-build-spec = tie.close (tie.spec build-requires built-size-requires built-requires same-length returns)

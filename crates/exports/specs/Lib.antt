@@ -1,0 +1,4 @@
+pub mod Control
+pub mod Lent
+pub mod Numbers
+pub mod Promises

@@ -1,0 +1,67 @@
+-- `framer::carry` meets its contract: deaf, left, or carried on in the half that receives. Assumes nothing.
+use native.Mathlib.Omega.{arith}
+use Rattle.framer.proofs.Quick.{carry-deaf, carry-on, carry-left}
+use borrow.Author.Needs.{needs}
+use Rattle.framer.proofs.carry.Statement.{statement}
+use Rattle.framer.proofs.carry.Tie as tie
+
+last-requires : tie.Need-last-requires
+last-requires c κs = search needs
+
+returns : tie.Need-returns
+returns c = carry-deaf (search needs) (record { each = λ i. omega (arith, c .before .before .before .slice-known .given i) }) (c .before .if1 .taken) (c .last .ensures)
+
+place-requires : tie.Need-place-requires
+place-requires c κs = search needs
+
+add-end : tie.Need-add-end
+add-end c = search needs
+
+sub-inside : tie.Need-sub-inside
+sub-inside c = search needs
+
+part-inside-start : tie.Need-part-inside-start
+part-inside-start c = search needs
+
+part-inside-end : tie.Need-part-inside-end
+part-inside-end c = search needs
+
+inside-requires : tie.Need-inside-requires
+inside-requires c κs = search needs
+
+same-length : tie.Need-same-length
+same-length c = search needs
+
+returns-2 : tie.Need-returns-2
+returns-2 c =
+    let b = c .before .before .before .before .before in
+    carry-left (search needs) (b .before .if1 .left) (b .place .ensures) (c .before .before .before .inside .ensures) (c .if2 .taken)
+
+last-requires-2 : tie.Need-last-requires-2
+last-requires-2 c κs = search needs
+
+same-length-2 : tie.Need-same-length-2
+same-length-2 c = search needs
+
+returns-3 : tie.Need-returns-3
+returns-3 c =
+    let b = c .before .before .before .before .before .before in
+    carry-on (search needs) (b .before .if1 .left) (b .place .ensures) (c .last2 .ensures) (c .before .before .before .before .inside .ensures) (c .before .if2 .left) (record { each = λ i. omega (arith, c .before .before .slice-known2 .given i) })
+
+pub carry-spec : {M : Type 1} → statement M
+carry-spec =
+    tie.close
+    (tie.spec
+    last-requires
+    returns
+    place-requires
+    add-end
+    sub-inside
+    part-inside-start
+    part-inside-end
+    inside-requires
+    same-length
+    returns-2
+    last-requires-2
+    same-length-2
+    returns-3)

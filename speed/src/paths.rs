@@ -1,0 +1,296 @@
+//! Every call of the library, on inputs that reach its paths, for the measure of its stack.
+
+use motikhund::raw::*;
+use second::packet::*;
+use second::reader::ALL;
+use second::sender::PIECE;
+
+use crate::calls::{Hub, Reader, Sender, ACK, CHARACTER_GAP, HUB_ANSWER, MESSAGE, MESSAGE_GAP, NAK_RESEND};
+use crate::calls::{PACKET, READER_ANSWER, TIME_OUT};
+use crate::proved;
+use crate::stack::{calibrate, measured, Depths};
+use crate::streams::{self, Dice, Stream};
+
+/// Refusals 1, 2 and 3.
+fn add_broken(stream: &mut Stream, opcode: u8, source: u8) {
+    let mut packet = lay_out(opcode, source, 0, &[0; PIECE + 1]);
+    *packet.last_mut().expect("a packet has bytes") ^= 1;
+    stream.add(&packet, CHARACTER_GAP);
+    stream.add(&[3], CHARACTER_GAP);
+    stream.add(&[4, opcode], MESSAGE_GAP);
+}
+
+/// What a hub and a framer hear.
+fn from_reader() -> Stream {
+    let dice = &mut Dice::new(2);
+    let message = dice.bytes(MESSAGE);
+    let mut stream = streams::garbage(dice, MESSAGE);
+    stream.add(&[], MESSAGE_GAP);
+    stream.add_message(1, &message);
+    stream.add_packet(DECODE_DATA, READER, 0, &[2]);
+    stream.add_packet(DECODE_DATA, READER, MARK, &[2]);
+    stream.add_packet(CMD_ACK, READER, 0, &[]);
+    stream.add_packet(DECODE_DATA, HOST, 0, &[2]);
+    stream.add_packet(DECODE_DATA, READER, !0, &[2]);
+    stream.add_packet(BEEP, READER, 0, &[2]);
+    stream.add_packet(DECODE_DATA, READER, 0, &[]);
+    add_broken(&mut stream, DECODE_DATA, READER);
+    // Another type, then a bar, then a total that is too high.
+    stream.add_packet(DECODE_DATA, READER, MORE, &message[..PIECE]);
+    stream.add_packet(DECODE_DATA, READER, MORE, &[!message[0]]);
+    stream.add_packet(DECODE_DATA, READER, MORE, &[!message[0]]);
+    stream.add(&[], MESSAGE_GAP);
+    for _ in 0..=MESSAGE.div_ceil(PIECE) {
+        stream.add_packet(DECODE_DATA, READER, MORE, &message[..PIECE + 1]);
+    }
+    stream
+}
+
+/// Commands, right and wrong.
+fn from_host() -> Stream {
+    let dice = &mut Dice::new(3);
+    let most = streams::parameters(dice, MOST_DATA / 2);
+    let every: Vec<u8> = (0..MOST_DATA).map(|i| !i as u8).filter(|number| *number != ALL).collect();
+    let mut wrong = most.clone();
+    *wrong.last_mut().expect("a value") = 100;
+    let mut stream = streams::commands(dice, PACKET);
+    for mark in [0, MARK] {
+        stream.add_packet(PARAM_SEND, HOST, PERMANENT | mark, &most);
+    }
+    // Answers go out again after this.
+    stream.add_packet(PARAM_DEFAULTS, HOST, 0, &[]);
+    for numbers in [&every, &[ALL; MOST_DATA].to_vec()] {
+        for mark in [0, MARK] {
+            stream.add_packet(PARAM_REQUEST, HOST, mark, numbers);
+        }
+    }
+    stream.add_packet(BEEP, READER, 0, &[0]);
+    stream.add_packet(BEEP, HOST, !0, &[0]);
+    stream.add_packet(DECODE_DATA, HOST, 0, &[0]);
+    stream.add_packet(BEEP, HOST, 0, &[]);
+    stream.add_packet(BEEP, HOST, 0, &[!0]);
+    stream.add_packet(PARAM_SEND, HOST, 0, &wrong);
+    add_broken(&mut stream, PARAM_SEND, HOST);
+    stream
+}
+
+fn packets(depths: &mut Depths, stream: &Stream) {
+    let (mut room, mut head, mut size) = ([0; PACKET], [0; 4], 0);
+    for (part, _) in stream.parts() {
+        measured!(depths, mk_check(part.as_ptr(), part.len(), &mut head));
+    }
+    for length in [room.len(), room.len() - 1] {
+        for (source, status, carried) in [(READER, 0, MOST_DATA), (HOST, !0, 0), (!0, 0, 0), (HOST, 0, PACKET)] {
+            let data = [0; PACKET];
+            measured!(
+                depths,
+                mk_build(room.as_mut_ptr(), length, BEEP, source, status, data.as_ptr(), carried, &mut size)
+            );
+        }
+    }
+    for source in [HOST, !0] {
+        for (reply, length) in [(ACK, room.len()), (NAK_RESEND, room.len()), (ACK, HUB_ANSWER - 1)] {
+            measured!(depths, mk_answer(room.as_mut_ptr(), length, source, reply, &mut size));
+        }
+    }
+    for (opcode, source, carried) in [(CMD_ACK, HOST, 0), (CMD_NAK, HOST, 1), (CMD_NAK, READER, 1), (BEEP, HOST, 2)] {
+        let data = [1; 2];
+        measured!(depths, mk_sender_heed(opcode, source, 0, data.as_ptr(), carried));
+    }
+}
+
+fn framer(depths: &mut Depths, stream: &Stream) {
+    let (mut control, mut line, mut head) = ([0; 9], [0; PACKET], [0; 4]);
+    measured!(depths, mk_framer_idle(control.as_mut_ptr(), control.len()));
+    stream.events(|event| {
+        let (control, line) = (&mut control[..], &mut line[..]);
+        measured!(
+            depths,
+            mk_framer_hear(control.as_mut_ptr(), control.len(), line.as_mut_ptr(), line.len(), event, &mut head)
+        );
+    });
+}
+
+fn hub(depths: &mut Depths, stream: &Stream) {
+    let mut hub = proved::Hub::new();
+    let (mut answer, mut message, mut values) = ([0; HUB_ANSWER], [0; MESSAGE], [0; 3]);
+    measured!(depths, mk_hub_on(hub.control.as_mut_ptr(), hub.control.len()));
+    stream.events(|event| {
+        measured!(
+            depths,
+            mk_hub_hear(
+                hub.control.as_mut_ptr(),
+                hub.control.len(),
+                &mut hub.line,
+                &mut hub.gather,
+                answer.as_mut_ptr(),
+                answer.len(),
+                message.as_mut_ptr(),
+                message.len(),
+                event,
+                &mut values,
+            )
+        );
+    });
+}
+
+/// Sizes of messages, and what a sender hears while they are out: two are delivered, two fail, one is too long.
+fn errands() -> [(usize, Vec<u32>); 5] {
+    let delivered = [TIME_OUT, NAK_RESEND].into_iter().chain([ACK; MESSAGE.div_ceil(PIECE)]).collect();
+    [
+        (MESSAGE, delivered),
+        (0, vec![ACK, ACK, TIME_OUT]),
+        (PIECE + 1, vec![TIME_OUT; 3]),
+        (PIECE, vec![NAK_RESEND + 1]),
+        (MESSAGE + 1, vec![]),
+    ]
+}
+
+fn sender(depths: &mut Depths) {
+    let mut sender = proved::Sender::new();
+    let (mut room, mut value) = ([0; PACKET], 0);
+    let message = [0; MESSAGE + 1];
+    measured!(depths, mk_sender_idle(sender.control.as_mut_ptr(), sender.control.len(), true));
+    for (size, heard) in errands() {
+        for _ in 0..2 {
+            measured!(
+                depths,
+                mk_sender_start(
+                    sender.control.as_mut_ptr(),
+                    sender.control.len(),
+                    &mut sender.buffer,
+                    room.as_mut_ptr(),
+                    room.len(),
+                    0,
+                    message.as_ptr(),
+                    size,
+                    &mut value,
+                )
+            );
+            measured!(depths, mk_sender_waits(sender.control.as_ptr(), sender.control.len()));
+        }
+        for heard in heard {
+            measured!(
+                depths,
+                mk_sender_hear(
+                    sender.control.as_mut_ptr(),
+                    sender.control.len(),
+                    &sender.buffer,
+                    room.as_mut_ptr(),
+                    room.len(),
+                    heard,
+                    &mut value,
+                )
+            );
+        }
+        measured!(depths, mk_sender_waits(sender.control.as_ptr(), sender.control.len()));
+    }
+}
+
+/// The reader's whole end, with the rooms lent to it.
+struct End {
+    reader: proved::Reader,
+    answer: [u8; READER_ANSWER],
+    copy: [u8; PACKET],
+    values: [usize; 6],
+    value: usize,
+}
+
+impl End {
+    fn hear(&mut self, depths: &mut Depths, stream: &Stream) {
+        let End { reader, answer, copy, values, .. } = self;
+        stream.events(|event| {
+            measured!(
+                depths,
+                mk_reader_hear(
+                    reader.control.as_mut_ptr(),
+                    reader.control.len(),
+                    &mut reader.line,
+                    &mut reader.answers,
+                    &reader.message,
+                    answer.as_mut_ptr(),
+                    answer.len(),
+                    copy.as_mut_ptr(),
+                    copy.len(),
+                    event,
+                    &mut *values,
+                )
+            );
+        });
+    }
+
+    fn start(&mut self, depths: &mut Depths, size: usize) {
+        let End { reader, copy, value, .. } = self;
+        let bytes = [0; MESSAGE + 1];
+        measured!(
+            depths,
+            mk_reader_start(
+                reader.control.as_mut_ptr(),
+                reader.control.len(),
+                &mut reader.message,
+                copy.as_mut_ptr(),
+                copy.len(),
+                0,
+                bytes.as_ptr(),
+                size,
+                &mut *value,
+            )
+        );
+    }
+
+    fn time_out(&mut self, depths: &mut Depths) {
+        let End { reader, copy, value, .. } = self;
+        measured!(
+            depths,
+            mk_reader_time_out(
+                reader.control.as_mut_ptr(),
+                reader.control.len(),
+                &reader.message,
+                copy.as_mut_ptr(),
+                copy.len(),
+                &mut *value,
+            )
+        );
+    }
+}
+
+fn reader(depths: &mut Depths, commands: &Stream) {
+    let mut end =
+        End { reader: proved::Reader::new(), answer: [0; READER_ANSWER], copy: [0; PACKET], values: [0; 6], value: 0 };
+    measured!(depths, mk_reader_on(end.reader.control.as_mut_ptr(), end.reader.control.len()));
+    end.hear(depths, commands);
+    for number in 0..=255 {
+        let control = &end.reader.control;
+        measured!(depths, mk_reader_value(control.as_ptr(), control.len(), number, &mut end.value));
+    }
+    let control = &end.reader.control;
+    measured!(depths, mk_reader_switches(control.as_ptr(), control.len(), &mut [0; 4]));
+    for (size, heard) in errands() {
+        end.start(depths, size);
+        end.start(depths, size);
+        end.hear(depths, commands);
+        for heard in heard {
+            let mut answer = Stream::default();
+            match heard {
+                TIME_OUT => end.time_out(depths),
+                ACK => answer.add_packet(CMD_ACK, HOST, 0, &[]),
+                cause => answer.add_packet(CMD_NAK, HOST, 0, &[cause as u8]),
+            }
+            end.hear(depths, &answer);
+        }
+    }
+    measured!(depths, mk_reader_power_up(end.reader.control.as_mut_ptr(), end.reader.control.len()));
+}
+
+/// The depths of all calls of the library.
+pub fn depths() -> Result<Depths, String> {
+    calibrate()?;
+    let mut depths = Depths::new();
+    let line = from_reader();
+    packets(&mut depths, &line);
+    framer(&mut depths, &line);
+    hub(&mut depths, &line);
+    sender(&mut depths);
+    reader(&mut depths, &from_host());
+    Ok(depths)
+}
