@@ -11,8 +11,8 @@ use Rattle.sender.specs.Pieces as pieces
 use Rattle.sender.specs.Sender as sender
 use Rattle.table.specs.Rows as rows
 use Rattle.table.specs.Table as table
-use Rattle.reader.specs.Beeps as beeps
-use Rattle.reader.specs.Commands as commands
+use Rattle.commands.specs.Beeps as beeps
+use Rattle.commands.specs.Commands as commands
 use Rattle.reader.specs.Reader as whole-end
 
 unfoldable pub opening : ℕ

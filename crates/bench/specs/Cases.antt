@@ -15,7 +15,7 @@ use Rattle.hub.specs.Hub as hub
 use Rattle.sender.specs.Pieces.{piecesOf, packetsOf}
 use Rattle.sender.specs.Sender as sender
 use Rattle.table.specs.Table.{defaults}
-use Rattle.reader.specs.Commands.{DeviceState, fresh}
+use Rattle.commands.specs.Commands.{DeviceState, fresh}
 use Rattle.reader.specs.Reader.{Output, switched, answered, switchedOn, readerStep}
 
 -- Bytes on a line, and the gap after them.

@@ -15,7 +15,7 @@ use Rattle.hub.specs.declared.Gathering.{Gathering}
 use Rattle.hub.specs.declared.Hub.{Hub}
 use Rattle.sender.specs.declared.Sender.{Sender}
 use Rattle.table.specs.declared.Table.{Table}
-use Rattle.reader.specs.declared.Device.{Device}
+use Rattle.commands.specs.declared.Device.{Device}
 use Rattle.reader.specs.declared.Reader.{Reader}
 use Rattle.exports.proofs.Storing.{number-long, halves-long, table-long, device-long}
 use Rattle.exports.specs.Control.{halfIn, halfBytes, numberIn, numberBytes, Small, flagIn, flagByte, framerIn, framerBytes, halvesIn, halvesBytes, gatheringIn, gatheringBytes, hubIn, hubBytes, senderIn, senderBytes, tableIn, tableBytes, deviceIn, deviceBytes, readerIn, readerBytes, SmallHalves, SmallHub, SmallSender, SizedTable, SmallReader, HalfIn, NumberIn, FramerIn, HalvesIn, GatheringIn, HubIn, SenderIn, ValuesIn, TableIn, DeviceIn, ReaderIn}

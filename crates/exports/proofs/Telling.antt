@@ -11,14 +11,14 @@ use Rattle.packet.specs.declared.Reply.the-variants as reply
 use Rattle.framer.specs.declared.Event.the-variants.{Byte, CharacterGap, MessageGap}
 use Rattle.hub.specs.declared.Told.{Told}
 use Rattle.hub.specs.declared.Told.the-variants as told
-use Rattle.reader.specs.declared.Beep.{Beep}
-use Rattle.reader.specs.declared.Beep.the-variants as beep
+use Rattle.commands.specs.declared.Beep.{Beep}
+use Rattle.commands.specs.declared.Beep.the-variants as beep
+use Rattle.commands.specs.declared.Device.{Device}
 use Rattle.reader.specs.declared.Told.{Told as Commanded}
 use Rattle.reader.specs.declared.Told.the-variants as commanded
 use Rattle.sender.specs.declared.Outcome.{Outcome}
 use Rattle.sender.specs.declared.Heard.{Heard}
 use Rattle.sender.specs.declared.Heard.the-variants as heard
-use Rattle.reader.specs.declared.Device.{Device}
 use Rattle.exports.specs.Control.{flagByte, FlagByte, Switches}
 use Rattle.exports.specs.Numbers.{eventOf, heardOf, heardNumber, replyOf, hubValues, readerRow, readerValues, EventOf, HeardOf, ReplyOf, HubValues, OutcomeNumber, OutcomeValue, RowOf, ReaderRow, ReaderValues}
 

@@ -13,7 +13,7 @@ use Rattle.hub.specs.declared.Gathering.{Gathering}
 use Rattle.hub.specs.declared.Hub.{Hub}
 use Rattle.sender.specs.declared.Sender.{Sender}
 use Rattle.table.specs.declared.Table.{Table}
-use Rattle.reader.specs.declared.Device.{Device}
+use Rattle.commands.specs.declared.Device.{Device}
 use Rattle.reader.specs.declared.Reader.{Reader}
 
 -- ---- numbers and flags

@@ -21,8 +21,8 @@ use Rattle.framer.specs.declared.Found.{Found}
 use Rattle.framer.specs.declared.Found.the-variants as found
 use Rattle.hub.specs.declared.Told.{Told}
 use Rattle.hub.specs.declared.Told.the-variants as told
-use Rattle.reader.specs.declared.Beep.{Beep}
-use Rattle.reader.specs.declared.Beep.the-variants as beep
+use Rattle.commands.specs.declared.Beep.{Beep}
+use Rattle.commands.specs.declared.Beep.the-variants as beep
 use Rattle.reader.specs.declared.Told.{Told as Commanded}
 use Rattle.reader.specs.declared.Told.the-variants as commanded
 use Rattle.sender.specs.declared.Heard.{Heard}

@@ -1,10 +1,10 @@
 // Control values as bytes, so that a caller in another language keeps them without knowing them. What stands where is said in
 // specs/Control.antt; any bytes are some control value.
+use commands::Device;
 use framer::Framer;
 use framer::Halves;
 use hub::Gathering;
 use hub::Hub;
-use reader::Device;
 use reader::Reader;
 use sender::Sender;
 use table::ROWS;

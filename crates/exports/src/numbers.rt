@@ -1,4 +1,5 @@
 // Events and answers as numbers: specs/Numbers.antt has a line for each case of each enum.
+use commands::Beep;
 use framer::Event;
 use framer::Found;
 use packet::Built;
@@ -6,7 +7,6 @@ use packet::Checked;
 use packet::Head;
 use packet::Refusal;
 use packet::Reply;
-use reader::Beep;
 use sender::Heard;
 use sender::Outcome;
 ghost use Rattle.exports.specs.Numbers.{EventOf, HeardOf, HeardNumber, ReplyOf, RefusalNumber, HeadValues, CheckedNumber, CheckedValues, FoundNumber, FoundValues, BuiltNumber, BuiltSize, HubNumber, HubValues, OutcomeNumber, OutcomeValue, ReaderNumber, RowOf, ReaderRow, ReaderValues};

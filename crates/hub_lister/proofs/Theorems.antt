@@ -1,7 +1,7 @@
 -- However a text is cut, what is written for it is the listing of the whole; and document 01's example. Assumes nothing.
 use Prim.Native.Nat.{ℕ, _≤_}
 use mathlib.Core.Path.{_≡_, refl}
-use mathlib.Core.Bool.{true}
+use mathlib.Core.Bool.{true, false}
 use mathlib.Core.List.{List, [], _∷_, _++_}
 use lib.ListN.{length, take}
 use Rattle.words.specs.Lists.{sameBytes}
@@ -23,7 +23,7 @@ use Rattle.listing.proofs.Sessions as session
 use Rattle.hub_lister.specs.declared.Lister.{Lister}
 use Rattle.hub_lister.specs.declared.Listed.{Listed}
 use Rattle.hub_lister.specs.Listing.{acts, happens, listingOf, messageLine}
-use Rattle.hub_lister.specs.Promises.{Starts, Listens, Finishes, Ran}
+use Rattle.hub_lister.specs.Promises.{most, Starts, Listens, Finishes, Ran}
 
 -- ---- document 01's example, by computation
 
@@ -58,6 +58,11 @@ begins line gather s = record { ran = ran-none (rw (s .is) refl) }
 pub continues : {l : Lister} {line gather text room : List ℕ} {r : Listed} {line′ gather′ room′ : List ℕ} → Ran l line gather → Listens l line gather text room r line′ gather′ room′ →
     Ran (r .lister) line′ gather′
 continues k h = record { ran = ran-more (k .ran) (h .hears) }
+
+-- A call with room for the lines of one character takes one.
+pub takes-one : {l : Lister} {line gather text room : List ℕ} {r : Listed} {line′ gather′ room′ : List ℕ} → Listens l line gather text room r line′ gather′ room′ → l .ended ≡ false →
+    most ≤ length room → 1 ≤ length text → 1 ≤ r .taken
+takes-one k e h t = session.one-taken (k .hears) e h t
 
 -- However a text is cut, what is written for it is the listing of the whole: where the input ends, and where `E` ends it.
 pub session-ends : {l : Lister} {line gather room room′ : List ℕ} {r : ℕ} (k : Ran l line gather) → 2 ≤ length room → Finishes l room r room′ →

@@ -1,5 +1,4 @@
 pub mod Characters
-pub mod Decimals
 pub mod Endings
 pub mod Lines
 pub mod Reading

@@ -1,17 +1,16 @@
 -- One law for each answer of the functions that spell bytes and put lines, and what the loop over the bytes keeps. Assumes nothing.
 use Prim.Native.Nat.{ℕ, _+_, _*_, _/_, _%_, _<_, _≤_}
 use mathlib.Core.Path.{_≡_, refl, sym, ap, _∙_}
-use mathlib.Core.Bool.{Bool, true, false}
 use mathlib.Core.List.{List, [], _∷_, _++_, append-assoc}
 use native.Mathlib.Nat.{le-antisymm}
 use native.Mathlib.Numerals.{add-one}
 use native.Mathlib.Omega.{arith}
 use lib.ListN.{length, getD, take, set, length-append, length-set}
 use lib.Seq.{take-length, take-suc}
-use borrow.Author.Tests.{lt-ltb, le-ltb, leb-true, leb-false}
+use borrow.Author.Tests.{lt-ltb, le-ltb}
 use Rattle.listing.specs.declared.Pair.{Pair}
-use Rattle.listing.specs.Lines.{capitalOf, hexByte, hexBytes, decimals, lineWith, lineOf, numberLine}
-use Rattle.listing.specs.Promises.{Capital, Spelt, Puts, Writes, Fits}
+use Rattle.listing.specs.Lines.{capitalOf, hexByte, hexBytes, lineOf}
+use Rattle.listing.specs.Promises.{Capital, Spelt, Puts, Writes}
 use Rattle.listing.proofs.Rooms.{writes-one, writes-then, writes-length, writes-nothing, puts-none}
 
 -- ---- digits
@@ -87,48 +86,20 @@ spelling-all {bytes} {i = i} k h =
 
 -- ---- lines
 
-pub length-lineWith : (letter : ℕ) (values : List ℕ) → length (lineWith letter values) ≡ length values + 2
-length-lineWith letter values = simp length-append (omega arith)
-
 pub length-line : (letter : ℕ) (s : List ℕ) → length (lineOf letter s) ≡ 3 * length s + 2
 unfolding lineOf
-length-line letter s = let h = length-hexBytes s in let k = length-lineWith letter (hexBytes s) in omega arith
+length-line letter s = let h = length-hexBytes s in simp length-append (omega arith)
 
-pub length-numbers : (letter : ℕ) (s : List ℕ) → length (numberLine letter s) ≡ length (decimals s) + 2
-unfolding numberLine
-length-numbers letter s = length-lineWith letter (decimals s)
-
--- The letter, the values and the line feed, one behind the other.
-with-written : (letter : ℕ) {values room : List ℕ} {at m e r : ℕ} {room₁ : List ℕ} → m ≡ at + 1 → at + length values + 2 ≤ length room →
-    Writes values m (set room at letter) e room₁ → r ≡ e + 1 → Writes (lineWith letter values) at room r (set room₁ e 10)
-with-written letter {room = room} {at = at} s h w n =
+-- The letter, the bytes and the line feed, one behind the other.
+pub line-written : (letter : ℕ) (bytes room : List ℕ) {at m e r : ℕ} {room₁ : List ℕ} → m ≡ at + 1 → at + 3 * length bytes + 2 ≤ length room →
+    Writes (hexBytes bytes) m (set room at letter) e room₁ → r ≡ e + 1 → Writes (lineOf letter bytes) at room r (set room₁ e 10)
+unfolding lineOf
+line-written letter bytes room {at = at} s h w n =
+    let count = length-hexBytes bytes in
     let long = writes-length w in
     let set-long = length-set room at letter in
     let end = w .is in
     writes-then (writes-then (writes-one (omega arith) s) w) (writes-one (omega arith) n)
 
-pub line-written : (letter : ℕ) (bytes room : List ℕ) {at m e r : ℕ} {room₁ : List ℕ} → m ≡ at + 1 → at + 3 * length bytes + 2 ≤ length room →
-    Writes (hexBytes bytes) m (set room at letter) e room₁ → r ≡ e + 1 → Writes (lineOf letter bytes) at room r (set room₁ e 10)
-unfolding lineOf
-line-written letter bytes room s h w n = let count = length-hexBytes bytes in with-written letter s (omega arith) w n
-
-pub numbers-written : (letter : ℕ) (numbers room : List ℕ) {at m e r : ℕ} {room₁ : List ℕ} → m ≡ at + 1 → at + length (decimals numbers) + 2 ≤ length room →
-    Writes (decimals numbers) m (set room at letter) e room₁ → r ≡ e + 1 → Writes (numberLine letter numbers) at room r (set room₁ e 10)
-unfolding numberLine
-numbers-written letter numbers room s h w n = with-written letter s h w n
-
-pub no-bytes : (bytes : List ℕ) {room : List ℕ} {at : ℕ} → length room < at + 3 * length bytes → Puts (hexBytes bytes) at room at room
-no-bytes bytes h = let n = length-hexBytes bytes in puts-none (omega arith)
-
 pub no-line : (letter : ℕ) (bytes : List ℕ) {room : List ℕ} {at : ℕ} → length room < at + 3 * length bytes + 2 → Puts (lineOf letter bytes) at room at room
 no-line letter bytes h = let n = length-line letter bytes in puts-none (omega arith)
-
-pub no-numbers : (letter : ℕ) (numbers : List ℕ) {room : List ℕ} {at : ℕ} → length room < at + length (decimals numbers) + 2 → Puts (numberLine letter numbers) at room at room
-no-numbers letter numbers h = let n = length-numbers letter numbers in puts-none (omega arith)
-
-module _ {numbers : List ℕ} {most : ℕ} {b : Bool} (f : Fits numbers most b) where
-  pub numbers-fit : b ≡ true → length (decimals numbers) ≤ most
-  numbers-fit e = leb-true (length (decimals numbers)) most (sym (f .is) ∙ e)
-
-  pub numbers-do-not : b ≡ false → most < length (decimals numbers)
-  numbers-do-not e = leb-false (length (decimals numbers)) most (sym (f .is) ∙ e)

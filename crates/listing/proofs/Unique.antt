@@ -22,7 +22,7 @@ take-unique p q = p .is ∙ sym (q .is)
 pub spelt-unique : {b : ℕ} {r r′ : Pair} → Spelt b r → Spelt b r′ → r ≡ r′
 spelt-unique p q = p .is ∙ sym (q .is)
 
--- For `put_bytes`, `put_line`, `put_numbers` and `put_error`.
+-- For `put_line` and `put_error`.
 pub puts-unique : {p room room₁ room₂ : List ℕ} {at r r′ : ℕ} → Puts p at room r room₁ → Puts p at room r′ room₂ → (r ≡ r′) × (room₁ ≡ room₂)
 puts-unique p q = (p .is ∙ sym (q .is), p .room-is ∙ sym (q .room-is))
 

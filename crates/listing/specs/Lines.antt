@@ -1,8 +1,7 @@
--- The lines of a listing: a capital letter, the values, each after a space, a line feed. Bytes are two capital hex digits, numbers
--- are decimal.
-use Prim.Native.Nat.{ℕ, zero, suc, _+_, _/_, _%_}
+-- The lines of a listing: a capital letter, the bytes, each two capital hex digits after a space, a line feed.
+use Prim.Native.Nat.{ℕ, _+_, _/_, _%_}
 use mathlib.Core.List.{List, [], _∷_, _++_}
-use lib.Dec.{ltb, leb, eqb}
+use lib.Dec.{ltb, leb}
 use lib.ListN.{length}
 use Rattle.words.specs.Lists.{pick}
 
@@ -17,30 +16,8 @@ unfoldable pub hexBytes : List ℕ → List ℕ
 hexBytes [] = []
 hexBytes (b ∷ bs) = hexByte b ++ hexBytes bs
 
--- The decimal digits of a number, none for 0. k bounds how many there can be.
-unfoldable pub digitsBy : ℕ → ℕ → List ℕ
-digitsBy zero n = []
-digitsBy (suc k) n = pick (eqb n 0) [] (digitsBy k (n / 10) ++ ((48 + n % 10) ∷ []))
-
-unfoldable pub digitsOf : ℕ → List ℕ
-digitsOf n = digitsBy n n
-
--- The last digit always stands there: 0 has one.
-unfoldable pub decimal : ℕ → List ℕ
-decimal n = 32 ∷ (digitsOf (n / 10) ++ ((48 + n % 10) ∷ []))
-
-unfoldable pub decimals : List ℕ → List ℕ
-decimals [] = []
-decimals (n ∷ ns) = decimal n ++ decimals ns
-
-abbrev pub lineWith : ℕ → List ℕ → List ℕ
-lineWith letter values = letter ∷ (values ++ (10 ∷ []))
-
 unfoldable pub lineOf : ℕ → List ℕ → List ℕ
-lineOf letter bytes = lineWith letter (hexBytes bytes)
-
-unfoldable pub numberLine : ℕ → List ℕ → List ℕ
-numberLine letter numbers = lineWith letter (decimals numbers)
+lineOf letter bytes = letter ∷ (hexBytes bytes ++ (10 ∷ []))
 
 -- `A` and the bytes of an answer; nothing where none goes out.
 unfoldable pub answerLine : List ℕ → List ℕ

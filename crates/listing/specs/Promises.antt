@@ -1,13 +1,12 @@
 -- What each function of `listing` promises: its answer, and every byte of the room it was lent.
-use Prim.Native.Nat.{ℕ, _+_, _-_, _/_, _%_, _≤_}
+use Prim.Native.Nat.{ℕ, _+_, _/_, _%_, _≤_}
 use mathlib.Core.Bool.{Bool}
 use mathlib.Core.List.{List}
 use mathlib.Core.Path.{_≡_}
-use lib.Dec.{leb}
 use lib.ListN.{length}
 use Rattle.words.specs.Lists.{overAt}
 use Rattle.words.specs.Machine.{Done}
-use Rattle.listing.specs.Lines.{capitalOf, decimal, decimals, answerLine, fitting}
+use Rattle.listing.specs.Lines.{capitalOf, answerLine, fitting}
 use Rattle.listing.specs.Listing.{Reading, lastLine}
 use Rattle.listing.specs.Session.{goesOn}
 use Rattle.listing.specs.Tokens.{digitOf, signOf, firstOf, byteOf, secondOf, takeOf}
@@ -66,18 +65,3 @@ pub record Writes (p : List ℕ) (at : ℕ) (room : List ℕ) (r : ℕ) (room′
 pub record Steps {S : Type 0} (d : Done (Reading S) ℕ) (room : List ℕ) (at : ℕ) (s′ : Reading S) (place : ℕ) (room′ : List ℕ) : Type 0 where
   pub next : s′ ≡ d .next
   pub writes : Writes (d .told) at room place room′
-
-pub record Fits (numbers : List ℕ) (most : ℕ) (r : Bool) : Type 0 where
-  pub is : r ≡ leb (length (decimals numbers)) most
-
--- The digits, without the space.
-pub record Counts (n r : ℕ) : Type 0 where
-  pub is : r + 1 ≡ length (decimal n)
-
-pub record Last (n r : ℕ) : Type 0 where
-  pub is : r ≡ 48 + n % 10
-
--- Put so that they end before a place.
-pub record Backs (p room : List ℕ) (end : ℕ) (room′ : List ℕ) : Type 0 where
-  pub is : room′ ≡ overAt (end - length p) p room
-  pub long : length room′ ≡ length room

@@ -1,9 +1,9 @@
-// The text that the listings share: characters read as tokens, and lines of bytes or numbers put into a lent room.
+// The text that the listings share: characters read as tokens, and lines of bytes put into a lent room.
 // Any value is taken; a line that the room does not hold whole from its place on is not put at all.
 ghost use Prim.Native.Nat.{_+_, _*_, _<_, _≤_};
 ghost use lib.ListN.{length};
-ghost use Rattle.listing.specs.Lines.{hexByte, hexBytes, lineOf, digitsOf, decimal, decimals, numberLine, errorLine};
-ghost use Rattle.listing.specs.Promises.{IsDigit, Takes, First, Second, Signs, Joined, Capital, Spelt, Puts, PutsAnswer, Writes, Finishes, GoesOn, Fits, Counts, Last, Backs};
+ghost use Rattle.listing.specs.Lines.{hexByte, hexBytes, lineOf, errorLine};
+ghost use Rattle.listing.specs.Promises.{IsDigit, Takes, First, Second, Signs, Joined, Capital, Spelt, Puts, PutsAnswer, Writes, Finishes, GoesOn};
 
 // What a character is worth as a hex digit, of either case.
 pub enum Digit {
@@ -149,20 +149,8 @@ fn capital(n: u8) -> u8
     55 + n
 }
 
-// Each byte after a space, from a place of the room on; answers the next place, which is the same where they do not fit.
-pub fn put_bytes(bytes: &[u8], room: &mut [u8], at: usize) -> usize
-    ensures { λ r. ⌜ Puts (hexBytes (now (bytes .entry))) at (now (room .entry)) r (now (room .exit)) ⌝ }
-{
-    if room.len() < at {
-        return at;
-    }
-    if bytes.len() <= (room.len() - at) / 3 {
-        return spell(bytes, room, at);
-    }
-    at
-}
-
-// A line in the same way: its letter, the bytes, a line feed.
+// A line from a place of the room on: its letter, each byte after a space, a line feed. Answers the next place, which is the same where
+// the line does not fit.
 pub fn put_line(letter: u8, bytes: &[u8], room: &mut [u8], at: usize) -> usize
     ensures { λ r. ⌜ Puts (lineOf letter (now (bytes .entry))) at (now (room .entry)) r (now (room .exit)) ⌝ }
 {
@@ -212,22 +200,6 @@ fn spell_byte(b: u8, room: &mut [u8], at: usize) -> usize
     at + 3
 }
 
-// A line of decimal numbers in the same way.
-pub fn put_numbers(letter: u8, numbers: &[usize], room: &mut [u8], at: usize) -> usize
-    ensures { λ r. ⌜ Puts (numberLine letter (now (numbers .entry))) at (now (room .entry)) r (now (room .exit)) ⌝ }
-{
-    if room.len() < 2 {
-        return at;
-    }
-    if room.len() - 2 < at {
-        return at;
-    }
-    if fit(numbers, room.len() - 2 - at) {
-        return write_numbers(letter, numbers, room, at);
-    }
-    at
-}
-
 // The line of an answer, if one goes out.
 pub fn put_answer(answer: &[u8], room: &mut [u8], at: usize) -> usize
     ensures { λ r. ⌜ PutsAnswer (now (answer .entry)) at (now (room .entry)) r (now (room .exit)) ⌝ }
@@ -266,89 +238,4 @@ pub fn goes_on(ended: bool, most: usize, left: usize) -> bool
         return false;
     }
     most <= left
-}
-
-// Whether the numbers have at most so many characters, with their spaces.
-fn fit(numbers: &[usize], most: usize) -> bool
-    ensures { λ r. ⌜ Fits (now (numbers .entry)) most r ⌝ }
-{
-    let mut left = most;
-    let mut i = 0;
-    while i < numbers.len() {
-        let size = digits(numbers[i]);
-        if left <= size {
-            return false;
-        }
-        left = left - size - 1;
-        i += 1;
-    }
-    true
-}
-
-// How many decimal digits a number has.
-fn digits(n: usize) -> usize
-    ensures { λ r. ⌜ Counts n r ⌝ }
-{
-    let mut count = 1;
-    let mut rest = n / 10;
-    while rest > 0 {
-        count += 1;
-        rest /= 10;
-    }
-    count
-}
-
-fn write_numbers(letter: u8, numbers: &[usize], room: &mut [u8], at: usize) -> usize
-    requires { ⌜ at + length (decimals (now numbers)) + 2 ≤ length (now room) ⌝ }
-    ensures { λ r. ⌜ Writes (numberLine letter (now (numbers .entry))) at (now (room .entry)) r (now (room .exit)) ⌝ }
-{
-    room[at] = letter;
-    let end = spell_numbers(numbers, room, at + 1);
-    room[end] = b'\n';
-    end + 1
-}
-
-fn spell_numbers(numbers: &[usize], room: &mut [u8], at: usize) -> usize
-    requires { ⌜ at + length (decimals (now numbers)) ≤ length (now room) ⌝ }
-    ensures { λ r. ⌜ Writes (decimals (now (numbers .entry))) at (now (room .entry)) r (now (room .exit)) ⌝ }
-{
-    let mut i = 0;
-    let mut place = at;
-    while i < numbers.len() {
-        place = spell_number(numbers[i], room, place);
-        i += 1;
-    }
-    place
-}
-
-// The last digit stands there even for 0.
-fn spell_number(n: usize, room: &mut [u8], at: usize) -> usize
-    requires { ⌜ at + length (decimal n) ≤ length (now room) ⌝ }
-    ensures { λ r. ⌜ Writes (decimal n) at (now (room .entry)) r (now (room .exit)) ⌝ }
-{
-    room[at] = b' ';
-    let end = at + digits(n);
-    spell_back(n / 10, room, end);
-    room[end] = last_digit(n);
-    end + 1
-}
-
-// The digits of a number from the last one back, so that they end before a place; none for 0.
-fn spell_back(n: usize, room: &mut [u8], end: usize)
-    requires { ⌜ (length (digitsOf n) ≤ end) × (end ≤ length (now room)) ⌝ }
-    ensures { λ _. ⌜ Backs (digitsOf n) (now (room .entry)) end (now (room .exit)) ⌝ }
-{
-    let mut rest = n;
-    let mut place = end;
-    while rest > 0 {
-        place -= 1;
-        room[place] = last_digit(rest);
-        rest /= 10;
-    }
-}
-
-fn last_digit(n: usize) -> u8
-    ensures { λ r. ⌜ Last n r ⌝ }
-{
-    (48 + n % 10) as u8
 }

@@ -4,7 +4,7 @@ use mathlib.Core.Path.{_≡_, refl, sym, ap, _∙_}
 use mathlib.Core.Bool.{Bool, true, false}
 use mathlib.Core.List.{List, [], _∷_, _++_, map}
 use native.Mathlib.Omega.{arith}
-use lib.Dec.{ltb}
+use lib.Dec.{eqb, ltb}
 use lib.ListN.{length, getD, take, drop, length-take, length-drop}
 use lib.Seq.{length-take-le}
 use borrow.Author.Tests.{eq-eqb, ne-eqb, le-leb, lt-leb, le-ltb}
@@ -29,18 +29,19 @@ use Rattle.sender.specs.declared.Outcome.the-variants as outcome
 use Rattle.sender.specs.declared.Sender.{Sender}
 use Rattle.sender.specs.declared.Sending.{Sending}
 use Rattle.table.specs.Table.{answerData}
-use Rattle.table.specs.Promises.{valuesOf, Answers, PowerUp}
+use Rattle.table.specs.Promises.{valuesOf, Answers, PowerUp, Value}
 use Rattle.table.specs.declared.Table.{Table}
 use Rattle.table.specs.declared.Written.{Written}
 use Rattle.table.specs.declared.Written.the-variants as given
 use Rattle.table.proofs.Finding.{many}
 use Rattle.table.proofs.Theorems.{answered-most}
-use Rattle.reader.specs.Reader.{CoreState, Output, refused, sent, answering, replyBytes, nakBytes, requestBytes, refuses, noPacketStep, answerTo, senderHears}
-use Rattle.reader.specs.Promises.{toldOf, answerOf, sentOf, deviceOf, answeredOf, coreOf, senderHearing, heeded, SwitchedOn, Steps, SoundCore, Handshake, Writes, Accepts, Joined, Filled, Leaves, ToSender, Again, Acts, Settles}
-use Rattle.reader.specs.declared.Beep.{Beep}
+use Rattle.commands.specs.Promises.{deviceOf}
+use Rattle.commands.specs.declared.Beep.{Beep}
+use Rattle.commands.specs.declared.Device.{Device}
+use Rattle.reader.specs.Reader.{CoreState, Output, refused, sent, answering, handshake, replyBytes, nakBytes, requestBytes, refuses, noPacketStep, answerTo, senderHears}
+use Rattle.reader.specs.Promises.{toldOf, answerOf, sentOf, answeredOf, coreOf, senderHearing, heeded, SwitchedOn, Steps, SoundCore, Handshake, Writes, Accepts, Joined, Filled, Leaves, ToSender, Again, Acts, Settles}
 use Rattle.reader.specs.declared.Told.{Told}
 use Rattle.reader.specs.declared.Told.the-variants as told
-use Rattle.reader.specs.declared.Device.{Device}
 use Rattle.reader.specs.declared.Core.{Core}
 use Rattle.reader.specs.declared.Stepped.{Stepped}
 use Rattle.reader.specs.declared.Reader.{Reader}
@@ -70,6 +71,10 @@ module _ {h : Halves} {n : ℕ} {s : Stepped} {a : Bool} {r : Answered} (p : Acc
   settles-other e j = record { is = j .is ∙ simp (sym (p .is) ∙ e) }
 
 -- ---- ACK and NAK
+
+pub handshake-value : {d : Device} {v : ℕ} → Value (d .table) 0x9F v → Handshake d (eqb v 1)
+unfolding handshake
+handshake-value v = record { is = rw (v .is) refl }
 
 writes-nothing : (room : List ℕ) → Writes [] room 0 room
 writes-nothing room = record { is = refl; most = omega arith; answer-is = sym (over-nil room) }

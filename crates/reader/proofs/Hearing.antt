@@ -41,7 +41,7 @@ use Rattle.sender.proofs.Standing.{control-stands}
 use Rattle.table.specs.Table.{answerData}
 use Rattle.table.proofs.Finding.{many}
 use Rattle.table.proofs.Theorems.{answer-most}
-use Rattle.reader.specs.Commands.{DeviceState, isKnown, lengthAllowed, Acted, denied, acted, command}
+use Rattle.commands.specs.Commands.{DeviceState, isKnown, lengthAllowed, Acted, denied, acted, command}
 use Rattle.reader.specs.Reader.{CoreState, Output, refused, repeated, beeped, switched, sent, answering, handshake, replyBytes, requestBytes, nakBytes, refuses, noPacketStep, answerTo, acts, commandStep, judgedStep, senderHears, packetStep, heardStep, readerStep}
 use Rattle.reader.specs.Promises.{toldOf, answerOf, sentOf, answeredOf, soundCore, coreOf, stateOf, accepts, acceptsName, senderHearing, heeded, senderAfter, coreAfter, readerOf, tooSmall, Steps, senderThrough, controlAfter, Hears, NoRoom, SoundCore, Leaves, Judges, Quiet, ToSender, Settles, Receives}
 use Rattle.reader.specs.declared.Core.{Core}

@@ -1,4 +1,4 @@
--- One law for each answer of `perform` and `judge`: what a command leaves in the control value, the buffers and the rooms. Assumes nothing.
+-- One law for each answer of `perform`, `repeat` and `judge`: what a command leaves in the control value, the buffers and the rooms. Assumes nothing.
 use Prim.Native.Nat.{ℕ, _≤_}
 use mathlib.Core.Path.{_≡_, refl, sym, _∙_}
 use mathlib.Core.Bool.{Bool, true, false}
@@ -6,22 +6,23 @@ use mathlib.Core.List.{List, [], _∷_, _++_, map}
 use lib.ListN.{length, getD, take}
 use lib.Seq.{length-take-le}
 use borrow.Author.Tests.{eq-eqb, ne-eqb}
-use Rattle.words.specs.Machine.{Done}
+use Rattle.words.specs.Lists.{pick}
 use Rattle.words.proofs.Lists.{over-nil, over-take, never}
 use Rattle.packet.specs.Opcodes.{host}
-use Rattle.packet.specs.Packet.{dataIn}
+use Rattle.packet.specs.Packet.{dataIn, statusAllowed, resentEqual}
 use Rattle.packet.specs.Promises.{DataPart, Allowed, Resent}
 use Rattle.packet.specs.declared.Refusal.{Refusal}
 use Rattle.packet.specs.declared.Refusal.the-variants as refusal
 use Rattle.sender.specs.Promises.{nameOf, copyOf}
-use Rattle.reader.specs.Commands.{DeviceState, Acted, denied, acted, command}
+use Rattle.commands.specs.Commands.{DeviceState, isKnown, lengthAllowed, Acted, denied, acted, command, judged}
+use Rattle.commands.specs.Promises.{beepOf, deviceOf, IsKnown, LengthAllowed, commandedOf, Commands}
+use Rattle.commands.specs.declared.Beep.{Beep}
+use Rattle.commands.specs.declared.Verdict.the-variants as verdict
+use Rattle.commands.specs.declared.Commanded.{Commanded}
+use Rattle.commands.proofs.Theorems.{told-denied}
 use Rattle.reader.specs.Reader.{CoreState, Output, beeped, switched, answering, refuses, answerTo, acts, commandStep, judgedStep}
-use Rattle.reader.specs.Promises.{beepOf, toldOf, answerOf, sentOf, deviceOf, coreOf, IsKnown, LengthAllowed, Fit, commandedOf, Commands, Steps, Leaves, Judges, Again, Acts}
-use Rattle.reader.specs.declared.Beep.{Beep}
-use Rattle.reader.specs.declared.Device.{Device}
+use Rattle.reader.specs.Promises.{toldOf, answerOf, sentOf, coreOf, Steps, Leaves, Judges, repeatStep, performStep, Repeats, Performs, Again, Acts}
 use Rattle.reader.specs.declared.Told.the-variants as told
-use Rattle.reader.specs.declared.Verdict.the-variants as verdict
-use Rattle.reader.specs.declared.Commanded.{Commanded}
 use Rattle.reader.specs.declared.Core.{Core}
 use Rattle.reader.specs.declared.Stepped.{Stepped}
 use Rattle.reader.proofs.Answering.{answer-answering, sent-answering}
@@ -48,18 +49,7 @@ done-sent (row ∷ rows) d bytes = done-sent rows d bytes
 
 -- ---- `perform`
 
--- A refusal, whatever the step's name.
-refused-by : {step : CoreState → List ℕ → Done CoreState Output} {c : Core} {body last answers answer answer′ : List ℕ} {r : Stepped} (x : Refusal) →
-    ((message : List ℕ) → step (coreOf c last answers message) body ≡ refuses (coreOf c last answers message) x) → c .answered ≤ length answers →
-    Leaves (λ (s : CoreState). refuses s x) c answer r answer′ → Judges step c body last answers answer r answers answer′
-refused-by {last = last} {answers = answers} x e few k = record { steps = λ message copy. rw (e message) (k .steps last answers message copy few) }
-
--- A command is denied or done by its own verdict.
-denied-by : (d : Device) (act : Acted) {x : Refusal} → commandedOf d act .verdict ≡ verdict.Denied x → act ≡ denied x
-unfolding commandedOf
-denied-by d (denied y) e = cc
-denied-by d (acted next rows) e = never (cc)
-
+-- A command is done by its own verdict.
 done-by : (c : Core) (body last answers answer message copy : List ℕ) (act : Acted) {m : Commanded} {b : Beep} {r : Stepped} {answers′ answer′ : List ℕ} →
     m ≡ commandedOf (c .device) act → m .verdict ≡ verdict.Done b → Acts c (m .device) b (getD body 1 0) (dataIn body) answers answer r answers′ answer′ →
     Steps (acts (coreOf c last answers message) body act) (c .sender) answers answer copy r answers′ answer′ copy
@@ -78,83 +68,103 @@ done-by c body last answers answer message copy (acted next rows) {m} {b} q e k 
       copy-is = rw (done-sent rows next bytes) (sym (over-nil copy));
     }
 
--- What is no resent equal is a command.
-commanded : (c : Core) (body carried last answers : List ℕ) {t : Bool} → Resent last body t → t ≡ false → carried ≡ dataIn body → (message : List ℕ) →
-    commandStep (coreOf c last answers message) body
-    ≡ acts (coreOf c last answers message) body (command (deviceOf (c .device)) (getD body 1 0) (getD body 3 0) carried)
-unfolding commandStep coreOf
-commanded c body carried last answers p f q message = simp (sym (p .is) ∙ f) (rw q refl)
+module _ {c : Core} {opcode status : ℕ} {carried answers answer : List ℕ} {m : Commanded} {r : Stepped} (few : c .answered ≤ length answers)
+    (k : Commands (c .device) (judged (deviceOf (c .device)) opcode status carried) m) where
+  pub performs-denied : {answer′ : List ℕ} {x : Refusal} → m .verdict ≡ verdict.Denied x → Leaves (λ (s : CoreState). refuses s x) c answer r answer′ →
+      Performs c opcode status carried answers answer r answers answer′
+  unfolding acts coreOf
+  performs-denied {x = x} e l =
+      let a = told-denied (c .device) (judged (deviceOf (c .device)) opcode status carried) (rw (k .is) at e) in
+      record { steps = λ body last message copy o q. rw a (l .steps last answers message copy few) }
 
-module _ {c : Core} {body last answers answer : List ℕ} {t : Bool} {r : Stepped} (few : c .answered ≤ length answers) (p : Resent last body t) where
-  pub performs-again : {answer′ : List ℕ} → t ≡ true → Again c answers answer r answer′ → Judges commandStep c body last answers answer r answers answer′
-  unfolding commandStep coreOf toldOf answerOf sentOf nameOf copyOf
-  performs-again e k =
-      let bytes : List ℕ = take (c .answered) answers in
-      let long : length bytes ≡ c .answered = length-take-le (c .answered) answers few in
+  pub performs-done : {answers′ answer′ : List ℕ} {b : Beep} → m .verdict ≡ verdict.Done b → Acts c (m .device) b opcode carried answers answer r answers′ answer′ →
+      Performs c opcode status carried answers answer r answers′ answer′
+  unfolding coreOf
+  performs-done e l =
       record {
-        steps = λ message copy.
-            simp (sym (p .is) ∙ e)
-            (record {
-              told-is = rw (k .is) refl;
-              count-is = rw (k .is, answer-answering bytes, long) refl;
-              outcome-is = rw (k .is, sent-answering bytes) refl;
-              core-is = rw (k .is, long) refl;
-              answers-is = sym (over-take (c .answered) answers);
-              answer-is = rw (answer-answering bytes) (k .answer-is);
-              copy-is = rw (sent-answering bytes) (sym (over-nil copy));
-            });
+        steps = λ body last message copy o q.
+            done-by c body last answers answer message copy (judged (deviceOf (c .device)) opcode status carried) (k .is) e (rw (o, q) at l);
       }
 
-  module _ {carried : List ℕ} {m : Commanded} (f : t ≡ false) (q : carried ≡ dataIn body)
-      (k : Commands (c .device) (command (deviceOf (c .device)) (getD body 1 0) (getD body 3 0) carried) m) where
-    pub performs-denied : {answer′ : List ℕ} {x : Refusal} → m .verdict ≡ verdict.Denied x → Leaves (λ (s : CoreState). refuses s x) c answer r answer′ →
-        Judges commandStep c body last answers answer r answers answer′
-    unfolding acts
-    performs-denied {x = x} e l =
-        let a = denied-by (c .device) (command (deviceOf (c .device)) (getD body 1 0) (getD body 3 0) carried) (rw (k .is) at e) in
-        refused-by x (λ message. commanded c body carried last answers p f q message ∙ rw a refl) few l
+-- ---- `repeat`
 
-    pub performs-done : {answers′ answer′ : List ℕ} {b : Beep} → m .verdict ≡ verdict.Done b → Acts c (m .device) b (getD body 1 0) carried answers answer r answers′ answer′ →
-        Judges commandStep c body last answers answer r answers′ answer′
-    performs-done e l =
+module _ {c : Core} {opcode : ℕ} {carried answers answer answer′ : List ℕ} {a : Bool} {r : Stepped} (few : c .answered ≤ length answers) (o : IsKnown opcode a) where
+  pub repeats-opcode : a ≡ false → Leaves (λ (s : CoreState). refuses s refusal.Opcode) c answer r answer′ → Repeats c opcode carried answers answer r answer′
+  repeats-opcode e l = record { steps = λ last message copy. simp (sym (o .is) ∙ e) (l .steps last answers message copy few) }
+
+  module _ {t : Bool} (e : a ≡ true) (p : LengthAllowed opcode carried t) where
+    pub repeats-data : t ≡ false → Leaves (λ (s : CoreState). refuses s refusal.Data) c answer r answer′ → Repeats c opcode carried answers answer r answer′
+    repeats-data f l = record { steps = λ last message copy. simp (sym (o .is) ∙ e, sym (p .is) ∙ f) (l .steps last answers message copy few) }
+
+    pub repeats-again : t ≡ true → Again c answers answer r answer′ → Repeats c opcode carried answers answer r answer′
+    unfolding coreOf toldOf answerOf sentOf nameOf copyOf
+    repeats-again f k =
+        let bytes : List ℕ = take (c .answered) answers in
+        let long : length bytes ≡ c .answered = length-take-le (c .answered) answers few in
         record {
-          steps = λ message copy.
-              rw (commanded c body carried last answers p f q message)
-              (done-by c body last answers answer message copy (command (deviceOf (c .device)) (getD body 1 0) (getD body 3 0) carried) (k .is) e (rw q at l));
+          steps = λ last message copy.
+              simp (sym (o .is) ∙ e, sym (p .is) ∙ f)
+              (record {
+                told-is = rw (k .is) refl;
+                count-is = rw (k .is, answer-answering bytes, long) refl;
+                outcome-is = rw (k .is, sent-answering bytes) refl;
+                core-is = rw (k .is, long) refl;
+                answers-is = sym (over-take (c .answered) answers);
+                answer-is = rw (answer-answering bytes) (k .answer-is);
+                copy-is = rw (sent-answering bytes) (sym (over-nil copy));
+              });
         }
 
 -- ---- `judge`
 
-pub fits : {opcode : ℕ} {carried : List ℕ} {t : Bool} → LengthAllowed opcode carried t → t ≡ true → Fit opcode carried
-fits p e = record { is = sym (p .is) ∙ e }
+-- A command that is denied is refused: 6 and 7 of the step are those of the command.
+acts-judged : (c : CoreState) (body : List ℕ) (known fits : Bool) (act : Acted) →
+    pick known (pick fits (acts c body act) (refuses c refusal.Data)) (refuses c refusal.Opcode)
+    ≡ acts c body (pick known (pick fits act (denied refusal.Data)) (denied refusal.Opcode))
+unfolding acts
+acts-judged c body true true act = refl
+acts-judged c body true false act = refl
+acts-judged c body false fits act = refl
 
-module _ {c : Core} {body last answers answer answer′ : List ℕ} {r : Stepped} (few : c .answered ≤ length answers) where
-  pub judges-source : (getD body 2 0 ≡ host → ⊥) → Leaves (λ (s : CoreState). refuses s refusal.Source) c answer r answer′ →
+-- Behind 4 and 5: what is no resent equal is a command.
+commanded : (c : CoreState) (body : List ℕ) → getD body 2 0 ≡ host → statusAllowed (getD body 1 0) (getD body 3 0) ≡ true → resentEqual (c .last) body ≡ false →
+    judgedStep c body ≡ performStep (getD body 1 0) (getD body 3 0) (dataIn body) c body
+unfolding judgedStep commandStep judged
+commanded c body s w p =
+    simp (eq-eqb (getD body 2 0) host s, w, p)
+    (acts-judged c body (isKnown (getD body 1 0)) (lengthAllowed (getD body 1 0) (dataIn body)) (command (c .device) (getD body 1 0) (getD body 3 0) (dataIn body)))
+
+repeated-step : (c : CoreState) (body : List ℕ) → getD body 2 0 ≡ host → statusAllowed (getD body 1 0) (getD body 3 0) ≡ true → resentEqual (c .last) body ≡ true →
+    judgedStep c body ≡ repeatStep (getD body 1 0) (dataIn body) c
+unfolding judgedStep commandStep
+repeated-step c body s w p = simp (eq-eqb (getD body 2 0) host s, w, p)
+
+module _ {c : Core} {body last answers answer answer′ : List ℕ} {r : Stepped} where
+  pub judges-source : c .answered ≤ length answers → (getD body 2 0 ≡ host → ⊥) → Leaves (λ (s : CoreState). refuses s refusal.Source) c answer r answer′ →
       Judges judgedStep c body last answers answer r answers answer′
   unfolding judgedStep
-  judges-source h k = refused-by refusal.Source (λ message. simp (ne-eqb (getD body 2 0) host h)) few k
+  judges-source few h k = record { steps = λ message copy. simp (ne-eqb (getD body 2 0) host h) (k .steps last answers message copy few) }
 
   module _ {a : Bool} (s : getD body 2 0 ≡ host) (w : Allowed (getD body 1 0) (getD body 3 0) a) where
-    pub judges-status : a ≡ false → Leaves (λ (s : CoreState). refuses s refusal.Status) c answer r answer′ →
+    pub judges-status : c .answered ≤ length answers → a ≡ false → Leaves (λ (s : CoreState). refuses s refusal.Status) c answer r answer′ →
         Judges judgedStep c body last answers answer r answers answer′
     unfolding judgedStep
-    judges-status e k = refused-by refusal.Status (λ message. simp (eq-eqb (getD body 2 0) host s, sym (w .is) ∙ e)) few k
+    judges-status few e k = record { steps = λ message copy. simp (eq-eqb (getD body 2 0) host s, sym (w .is) ∙ e) (k .steps last answers message copy few) }
 
-    module _ {b : Bool} (e : a ≡ true) (o : IsKnown (getD body 1 0) b) where
-      pub judges-opcode : b ≡ false → Leaves (λ (s : CoreState). refuses s refusal.Opcode) c answer r answer′ →
-          Judges judgedStep c body last answers answer r answers answer′
-      unfolding judgedStep
-      judges-opcode f k = refused-by refusal.Opcode (λ message. simp (eq-eqb (getD body 2 0) host s, sym (w .is) ∙ e, sym (o .is) ∙ f)) few k
+    module _ {t : Bool} {carried : List ℕ} (e : a ≡ true) (p : Resent last body t) (q : DataPart body carried) where
+      pub judges-repeat : t ≡ true → Repeats c (getD body 1 0) carried answers answer r answer′ → Judges judgedStep c body last answers answer r answers answer′
+      unfolding coreOf
+      judges-repeat f k =
+          record {
+            steps = λ message copy.
+                rw (repeated-step (coreOf c last answers message) body s (sym (w .is) ∙ e) (sym (p .is) ∙ f), ← q .is) (k .steps last message copy);
+          }
 
-      module _ {carried : List ℕ} {t : Bool} (f : b ≡ true) (q : DataPart body carried) (p : LengthAllowed (getD body 1 0) carried t) where
-        pub judges-data : t ≡ false → Leaves (λ (s : CoreState). refuses s refusal.Data) c answer r answer′ →
-            Judges judgedStep c body last answers answer r answers answer′
-        unfolding judgedStep
-        judges-data g k =
-            refused-by refusal.Data (λ message. simp (eq-eqb (getD body 2 0) host s, sym (w .is) ∙ e, sym (o .is) ∙ f, sym (q .is), sym (p .is) ∙ g)) few k
-
-        pub judges-command : {answers′ : List ℕ} → t ≡ true → Judges commandStep c body last answers answer r answers′ answer′ →
-            Judges judgedStep c body last answers answer r answers′ answer′
-        unfolding judgedStep
-        judges-command g k =
-            record { steps = λ message copy. simp (eq-eqb (getD body 2 0) host s, sym (w .is) ∙ e, sym (o .is) ∙ f, sym (q .is), sym (p .is) ∙ g) (k .steps message copy) }
+      pub judges-perform : {answers′ : List ℕ} → t ≡ false → Performs c (getD body 1 0) (getD body 3 0) carried answers answer r answers′ answer′ →
+          Judges judgedStep c body last answers answer r answers′ answer′
+      unfolding coreOf
+      judges-perform f k =
+          record {
+            steps = λ message copy.
+                rw (commanded (coreOf c last answers message) body s (sym (w .is) ∙ e) (sym (p .is) ∙ f), ← q .is) (k .steps body last message copy refl (q .is));
+          }

@@ -1,5 +1,4 @@
 pub mod Answering
-pub mod Commanding
 pub mod Hearing
 pub mod Judging
 pub mod Outcomes

@@ -6,8 +6,8 @@ use mathlib.Core.List.{List, [], _∷_, _++_, map, append-nil}
 use native.Mathlib.Omega.{arith}
 use lib.Dec.{eqb, ltb, leb}
 use lib.ListN.{getD}
-use borrow.Author.Tests.{le-ltb, le-leb, lt-leb, eq-eqb, ne-eqb, eqb-true}
-use Rattle.words.specs.Lists.{pick, both, either}
+use borrow.Author.Tests.{le-ltb, le-leb, lt-leb, eq-eqb, ne-eqb}
+use Rattle.words.specs.Lists.{pick, both}
 use Rattle.words.specs.Machine.{Done, after, through}
 use Rattle.words.proofs.Lists.{same-refl, never}
 use Rattle.words.proofs.Machine.{through-one}
@@ -24,13 +24,13 @@ use Rattle.framer.specs.declared.Event.{Event}
 use Rattle.framer.proofs.Outcomes as framer
 use Rattle.framer.proofs.Outcomes.{brings}
 use Rattle.sender.specs.Sender.{Sent, waits, senderStep, heedOf}
-use Rattle.table.specs.Table.{defaults}
-use Rattle.table.proofs.Theorems.{AllAllowed, accepted-allowed, at-first, reached-allowed}
-use Rattle.reader.specs.Commands.{DeviceState, isKnown, isOneByte, isBare, lengthAllowed, denied, acted, command}
+use Rattle.table.proofs.Theorems.{AllAllowed}
+use Rattle.commands.specs.Commands.{DeviceState, isKnown, lengthAllowed, denied, acted, command}
+use Rattle.commands.proofs.Theorems.{no-answer, does-allowed}
 use Rattle.reader.specs.Reader.{CoreState, ReaderState, Output, refused, repeated, beeped, switched, sent, nakBytes, refusalAnswer, refuses, noPacketStep, answering, answerTo, acts, commandStep, judgedStep, senderHears, packetStep, heardStep, readerStep, answered}
 use Rattle.reader.specs.Promises.{toldOf}
 use Rattle.reader.specs.declared.Told.the-variants as told
-use Rattle.reader.proofs.Outcomes.{Does, keeps, resets, sets, Outcome, heeds, turns, repeats, acts-on, Happens, nothing, no-packet, packet-heard, packet-outcome, event-happens}
+use Rattle.reader.proofs.Outcomes.{Outcome, heeds, turns, repeats, acts-on, Happens, nothing, no-packet, packet-heard, packet-outcome, event-happens}
 
 -- ---- refusals
 
@@ -153,17 +153,6 @@ pub record Rightful (o t : ℕ) (d : List ℕ) : Type 0 where
 abbrev pub commandBody : ℕ → ℕ → List ℕ → List ℕ
 commandBody o t d = bodyOf o host t d
 
--- A command's opcode is no answer's.
-unknown-answer : (o : ℕ) (a n : Bool) → eqb o 0xD0 ≡ a → eqb o 0xD1 ≡ n → isKnown o ≡ true → either a n ≡ false
-unfolding isKnown isOneByte isBare
-unknown-answer o true n e f k = let z = rw (eqb-true o 0xD0 e) at k in never (cc)
-unknown-answer o false true e f k = let z = rw (eqb-true o 0xD1 f) at k in never (cc)
-unknown-answer o false false e f k = refl
-
-no-answer : (o : ℕ) → isKnown o ≡ true → isAnswer o ≡ false
-unfolding isAnswer
-no-answer o k = unknown-answer o (eqb o 0xD0) (eqb o 0xD1) refl refl k
-
 -- The mark is allowed wherever the packet without it is.
 marked-allowed : (o t : ℕ) → t % 2 ≡ 0 → statusAllowed o t ≡ true → statusAllowed o (t + 1) ≡ true
 unfolding statusAllowed
@@ -221,14 +210,6 @@ unfolding packetStep
 answers-heeded c body e = simp e
 
 -- ---- values
-
-defaults-all-allowed : AllAllowed defaults
-defaults-all-allowed = reached-allowed at-first
-
-does-allowed : {d next : DeviceState} {rows : List (List ℕ)} → Does d (acted next rows) → AllAllowed (d .values) → AllAllowed (next .values)
-does-allowed (keeps e) k = rw e k
-does-allowed (resets e) k = rw e defaults-all-allowed
-does-allowed {d} {next} (sets forever reading e) k = accepted-allowed forever reading (d .values) (next .values) k e
 
 outcome-allowed : {c : CoreState} {body : List ℕ} {d : Done CoreState Output} → Outcome c body d → AllAllowed (c .device .values) → AllAllowed (d .next .device .values)
 unfolding senderHears acts

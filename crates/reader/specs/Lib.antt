@@ -1,4 +1,2 @@
-pub mod Beeps
-pub mod Commands
 pub mod Promises
 pub mod Reader

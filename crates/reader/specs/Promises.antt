@@ -23,18 +23,16 @@ use Rattle.sender.specs.declared.Outcome.the-variants as outcome
 use Rattle.sender.specs.declared.Sender.{Sender}
 use Rattle.sender.specs.declared.Sending.{Sending}
 use Rattle.table.specs.Table.{Values, powerUp}
-use Rattle.table.specs.Promises.{valuesOf, tableOf}
+use Rattle.table.specs.Promises.{valuesOf}
 use Rattle.table.specs.declared.Table.{Table}
-use Rattle.reader.specs.Beeps.{sendBeepAllowed}
-use Rattle.reader.specs.Commands.{DeviceState, fresh, Acted, denied, acted, isKnown, isOneByte, isBare, lengthAllowed, reported, beepCommand, ledCommand}
-use Rattle.reader.specs.Reader.{CoreState, ReaderState, Output, refused, repeated, beeped, switched, answered, sent, handshake, answerTo, packetStep, senderHears, readerStep}
-use Rattle.reader.specs.declared.Beep.{Beep}
-use Rattle.reader.specs.declared.Beep.the-variants as beep
+use Rattle.commands.specs.Commands.{fresh, isKnown, lengthAllowed, judged}
+use Rattle.commands.specs.Promises.{beepOf, deviceOf, deviceFrom}
+use Rattle.commands.specs.declared.Beep.{Beep}
+use Rattle.commands.specs.declared.Beep.the-variants as beep
+use Rattle.commands.specs.declared.Device.{Device}
+use Rattle.reader.specs.Reader.{CoreState, ReaderState, Output, refused, repeated, beeped, switched, answered, sent, handshake, answering, refuses, answerTo, acts, packetStep, senderHears, readerStep}
 use Rattle.reader.specs.declared.Told.{Told}
 use Rattle.reader.specs.declared.Told.the-variants as told
-use Rattle.reader.specs.declared.Verdict.the-variants as verdict
-use Rattle.reader.specs.declared.Device.{Device}
-use Rattle.reader.specs.declared.Commanded.{Commanded}
 use Rattle.reader.specs.declared.Core.{Core}
 use Rattle.reader.specs.declared.Stepped.{Stepped}
 use Rattle.reader.specs.declared.Reader.{Reader}
@@ -42,11 +40,6 @@ use Rattle.reader.specs.declared.Answered.{Answered}
 use Rattle.reader.specs.declared.Started.{Started}
 
 -- ---- the answers that are enums
-
--- A row of Table 2-12 as it is reported.
-unfoldable pub beepOf : List (List ℕ) → Beep
-beepOf [] = beep.Silent
-beepOf (row ∷ rows) = beep.Row (getD row 0 0) (getD row 1 0) (getD row 2 0)
 
 unfoldable pub toldOf : List Output → Told
 toldOf [] = told.Nothing
@@ -77,12 +70,6 @@ sentOf (answered bytes ∷ xs) = sentOf xs
 sentOf (sent x ∷ xs) = x ∷ sentOf xs
 
 -- ---- what control value and buffers stand for
-
-abbrev pub deviceOf : Device → DeviceState
-deviceOf d = record { values = valuesOf (d .table); enabled = d .enabled; session = d .session; aim = d .aim; led = d .led }
-
-abbrev pub deviceFrom : DeviceState → Device
-deviceFrom d = record { table = tableOf (d .values); enabled = d .enabled; session = d .session; aim = d .aim; led = d .led }
 
 -- Any control value is taken: an answer longer than the buffer is none.
 unfoldable pub answeredOf : ℕ → ℕ
@@ -214,57 +201,6 @@ pub record Writes (bytes answer : List ℕ) (r : ℕ) (answer′ : List ℕ) : T
   pub most : r ≤ 25
   pub answer-is : answer′ ≡ over bytes answer
 
-pub record IsKnown (opcode : ℕ) (r : Bool) : Type 0 where
-  pub is : r ≡ isKnown opcode
-
-pub record LengthAllowed (opcode : ℕ) (carried : List ℕ) (r : Bool) : Type 0 where
-  pub is : r ≡ lengthAllowed opcode carried
-
-pub record IsOneByte (opcode : ℕ) (r : Bool) : Type 0 where
-  pub is : r ≡ isOneByte opcode
-
-pub record IsBare (opcode : ℕ) (r : Bool) : Type 0 where
-  pub is : r ≡ isBare opcode
-
-pub record SendBeepAllowed (code : ℕ) (r : Bool) : Type 0 where
-  pub is : r ≡ sendBeepAllowed code
-
-pub record Reports (code : ℕ) (r : Beep) : Type 0 where
-  pub is : r ≡ beepOf (reported code)
-
-pub record WithTable (d : Device) (t : Table) (r : Device) : Type 0 where
-  pub is : r ≡ record { table = t; enabled = d .enabled; session = d .session; aim = d .aim; led = d .led }
-
-pub record WithSession (d : Device) (s : Bool) (r : Device) : Type 0 where
-  pub is : r ≡ record { table = d .table; enabled = d .enabled; session = s; aim = d .aim; led = d .led }
-
-pub record WithScanning (d : Device) (on s : Bool) (r : Device) : Type 0 where
-  pub is : r ≡ record { table = d .table; enabled = on; session = s; aim = d .aim; led = d .led }
-
-pub record WithAim (d : Device) (a : Bool) (r : Device) : Type 0 where
-  pub is : r ≡ record { table = d .table; enabled = d .enabled; session = d .session; aim = a; led = d .led }
-
-pub record WithLed (d : Device) (l : Bool) (r : Device) : Type 0 where
-  pub is : r ≡ record { table = d .table; enabled = d .enabled; session = d .session; aim = d .aim; led = l }
-
--- The data has a length that the opcode takes.
-pub record Fit (opcode : ℕ) (carried : List ℕ) : Type 0 where
-  pub is : lengthAllowed opcode carried ≡ true
-
--- What a command did.
-unfoldable pub commandedOf : Device → Acted → Commanded
-commandedOf d (denied r) = record { device = d; verdict = verdict.Denied r }
-commandedOf d (acted next rows) = record { device = deviceFrom next; verdict = verdict.Done (beepOf rows) }
-
-pub record Commands (d : Device) (act : Acted) (r : Commanded) : Type 0 where
-  pub is : r ≡ commandedOf d act
-
-pub record Sounds (d : Device) (code : ℕ) (r : Commanded) : Type 0 where
-  pub is : r ≡ commandedOf d (beepCommand (deviceOf d) (code ∷ []))
-
-pub record Lights (d : Device) (on : Bool) (bits : ℕ) (r : Commanded) : Type 0 where
-  pub is : r ≡ commandedOf d (ledCommand (deviceOf d) on (bits ∷ []))
-
 pub record Quiet (c : Core) (r : Stepped) : Type 0 where
   pub is : r ≡ record { core = c; told = told.Nothing; answer = 0; outcome = outcome.Nothing }
 
@@ -286,6 +222,25 @@ pub record Leaves (step : CoreState → Done CoreState Output) (c : Core) (answe
 -- A step on a command's body: the copy room and the sender's message are not looked at.
 pub record Judges (step : CoreState → List ℕ → Done CoreState Output) (c : Core) (body last answers answer : List ℕ) (r : Stepped) (answers′ answer′ : List ℕ) : Type 0 where
   pub steps : (message copy : List ℕ) → Steps (step (coreOf c last answers message) body) (c .sender) answers answer copy r answers′ answer′ copy
+
+-- `judgedStep` behind 4 and 5, on each side of the resend test. A resent equal: 6 and 7, then the same answer.
+abbrev pub repeatStep : ℕ → List ℕ → CoreState → Done CoreState Output
+repeatStep opcode carried c =
+    pick (isKnown opcode) (pick (lengthAllowed opcode carried) (record { next = c; told = repeated ∷ answering (c .lastAnswer) }) (refuses c refusal.Data)) (refuses c refusal.Opcode)
+
+-- Any other command: 6 to 9, or acted on.
+abbrev pub performStep : ℕ → ℕ → List ℕ → CoreState → List ℕ → Done CoreState Output
+performStep opcode status carried c body = acts c body (judged (c .device) opcode status carried)
+
+pub record Repeats (c : Core) (opcode : ℕ) (carried answers answer : List ℕ) (r : Stepped) (answer′ : List ℕ) : Type 0 where
+  pub steps : (last message copy : List ℕ) → Steps (repeatStep opcode carried (coreOf c last answers message)) (c .sender) answers answer copy r answers answer′ copy
+
+pub record Performs (c : Core) (opcode status : ℕ) (carried answers answer : List ℕ) (r : Stepped) (answers′ answer′ : List ℕ) : Type 0 where
+  pub steps :
+      (body last message copy : List ℕ) →
+      opcode ≡ getD body 1 0 →
+      carried ≡ dataIn body →
+      Steps (performStep opcode status carried (coreOf c last answers message) body) (c .sender) answers answer copy r answers′ answer′ copy
 
 pub record ToSender (c : Core) (body message copy : List ℕ) (r : Stepped) (copy′ : List ℕ) : Type 0 where
   pub steps :

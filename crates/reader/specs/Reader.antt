@@ -19,7 +19,7 @@ use Rattle.framer.specs.declared.Event.{Event}
 use Rattle.sender.specs.Sender.{SenderState, nothingOut, waits, Sent, startStep, senderStep, heedOf}
 use Rattle.sender.specs.declared.Heard.the-variants.{TimeOut}
 use Rattle.table.specs.Table.{Values, powerUp, valueOf, answerData}
-use Rattle.reader.specs.Commands.{DeviceState, fresh, isKnown, lengthAllowed, Acted, denied, acted, command}
+use Rattle.commands.specs.Commands.{DeviceState, fresh, isKnown, lengthAllowed, Acted, denied, acted, command}
 
 -- The device, the last accepted packet's body without its mark (no bytes: none) with the answer it had, and the sender.
 pub record CoreState : Type 0 where

@@ -1,5 +1,5 @@
 -- `reader::handshake` meets its contract: the value of 9Fh decides. Assumes nothing.
-use Rattle.reader.proofs.Commanding.{handshake-value}
+use Rattle.reader.proofs.Answering.{handshake-value}
 use borrow.Author.Needs.{needs}
 use Rattle.reader.proofs.handshake.Statement.{statement}
 use Rattle.reader.proofs.handshake.Tie as tie

@@ -5,8 +5,7 @@ use native.Mathlib.Omega.{arith}
 use lib.ListN.{length, length-take, length-drop}
 use borrow.Author.Needs.{needs}
 use Rattle.hub_lister.specs.Promises.{Ran}
-use Rattle.listing.proofs.Sessions.{one-taken}
-use Rattle.hub_lister.proofs.Theorems.{continues}
+use Rattle.hub_lister.proofs.Theorems.{continues, takes-one}
 use Rattle.hub_lister.proofs.stream.tell.Statement.{statement}
 use Rattle.hub_lister.proofs.stream.tell.Tie as tie
 
@@ -52,7 +51,7 @@ loop-less c =
     let h = b .hear .ensures in
     let l = b .before .before .before .before .before .before .before in
     let one =
-    one-taken (h .hears) (b .before .before .before .before .before .if1 .left)
+    takes-one h (b .before .before .before .before .before .if1 .left)
     (omega (arith, l .loop .inv .2, l .before .before .before .pre .1))
     (simp (length-take, length-drop) (omega arith)) in
     omega (arith, simp (length-take, length-drop) at (h .hears .within), one)

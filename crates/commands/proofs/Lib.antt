@@ -1,0 +1,4 @@
+pub mod Commanding
+pub mod Outcomes
+pub mod Theorems
+pub mod Unique

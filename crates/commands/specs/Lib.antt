@@ -1,0 +1,3 @@
+pub mod Beeps
+pub mod Commands
+pub mod Promises
