@@ -1,0 +1,93 @@
+//! The reader's end of the line.
+
+use motikhund::lent::reader::{self, ANSWER, CONTROL, COPY, LINE, MESSAGE};
+use motikhund::{Event, Outcome, ReaderTold};
+
+use crate::lines::Lines;
+use crate::notation::{size, End, Form, Further, Token, ROOM};
+
+/// The parameters' numbers, rising.
+const NUMBERS: [u8; 9] = [0x80, 0x89, 0x8A, 0x9B, 0x9C, 0x9E, 0x9F, 0xED, 0xEE];
+
+/// `S tt bb .. ;`: the code type, and one byte more than the longest message has, so that a longer one is refused.
+const START: Form = Form { letter: b'S', least: 1, most: 1 + MESSAGE + 1, further: Further::Dropped };
+
+/// A reader with an answer room of any size. Its control bytes have their size, so no call refuses them.
+pub struct Reader {
+    control: [u8; CONTROL],
+    line: [u8; LINE],
+    answers: [u8; ANSWER],
+    message: [u8; MESSAGE],
+    answer: Vec<u8>,
+    copy: [u8; COPY],
+}
+
+impl Reader {
+    pub fn new() -> Self {
+        let mut control = [0; CONTROL];
+        let _ = reader::on(&mut control);
+        let (line, message) = ([0; LINE], [0; MESSAGE]);
+        Reader { control, line, answers: [0; ANSWER], message, answer: vec![0; ANSWER], copy: [0; COPY] }
+    }
+
+    fn time_out(&mut self, lines: &mut Lines) {
+        sent(reader::time_out(&mut self.control, &self.message, &mut self.copy), lines);
+    }
+
+    fn power_up(&mut self, _: &mut Lines) {
+        let _ = reader::power_up(&mut self.control);
+    }
+
+    fn start(&mut self, bytes: &[u8], lines: &mut Lines) {
+        if let [code, message @ ..] = bytes {
+            sent(reader::start(&mut self.control, &mut self.message, &mut self.copy, *code, message), lines);
+        }
+    }
+
+    fn values(&mut self, lines: &mut Lines) {
+        lines.bytes(b'U', &NUMBERS.map(|number| reader::value(&self.control, number).unwrap_or_default()));
+    }
+
+    fn lend(&mut self, bytes: &[u8], _: &mut Lines) {
+        self.answer.resize(size(bytes), 0);
+    }
+}
+
+impl End for Reader {
+    const TOKENS: &'static [Token<Reader>] = &[
+        Token::Alone(b'T', Reader::time_out),
+        Token::Alone(b'P', Reader::power_up),
+        Token::With(START, Reader::start),
+        Token::Alone(b'U', Reader::values),
+        Token::With(ROOM, Reader::lend),
+    ];
+
+    fn hear(&mut self, event: Event, lines: &mut Lines) {
+        let Reader { control, line, answers, message, answer, copy } = self;
+        let told = reader::hear(control, line, answers, message, answer, copy, event);
+        match told {
+            ReaderTold::Nothing | ReaderTold::Repeated { .. } => {}
+            ReaderTold::Refused { why, .. } => lines.refusal(why),
+            ReaderTold::Acted { beep, .. } => {
+                if let Some(row) = beep {
+                    lines.numbers(b'B', [row.duration, row.pitch, row.number].map(usize::from));
+                }
+                let on = reader::switches(control).unwrap_or_default();
+                lines.numbers(b'G', [on.enabled, on.session, on.aim, on.led].map(usize::from));
+            }
+            ReaderTold::Sent(outcome) => sent(outcome, lines),
+        }
+        lines.answer(told.answer());
+    }
+}
+
+/// What the sender did.
+fn sent(outcome: Outcome, lines: &mut Lines) {
+    match outcome {
+        Outcome::Nothing => {}
+        Outcome::Copy(copy) => lines.bytes(b'C', copy),
+        Outcome::Delivered { copies } => lines.numbers(b'D', [copies]),
+        Outcome::Failed { copies } => lines.numbers(b'F', [copies]),
+        Outcome::Refused(why) => lines.refusal(why),
+    }
+}

@@ -1,0 +1,80 @@
+//! The story is played: a line that loses one ACK, and on it the library's reader and hub, beside a hub that adds every
+//! packet.
+
+use motikhund::packet::check;
+use motikhund::{Event, Hub, HubTold, Outcome, Reader, ReaderTold};
+
+const CODE_TYPE: u8 = 0x1B;
+
+/// Which of the hub's answers the line loses.
+const LOST: usize = 2;
+
+/// What happened.
+#[derive(Default)]
+pub struct Played {
+    /// All packets on the line, in order.
+    pub sent: Vec<Sent>,
+    /// With how many resends the reader called the card delivered.
+    pub delivered: Option<usize>,
+    /// What this hub handed out.
+    pub filed: Vec<u8>,
+    /// What the adding hub has when the line falls silent.
+    pub added: Vec<u8>,
+}
+
+pub struct Sent {
+    pub packet: Vec<u8>,
+    pub lost: bool,
+}
+
+pub fn play(card: &[u8]) -> Played {
+    let mut played = Played::default();
+    let (mut reader, mut hub) = (Reader::new(), Hub::new());
+    let mut answers = 0;
+    let mut copy = copied(reader.start(CODE_TYPE, card));
+    while let Some(packet) = copy.take() {
+        let mut answer = Vec::new();
+        for event in events(&packet) {
+            let told = hub.hear(event);
+            answer.extend(told.answer());
+            if let HubTold::Message { message, .. } = told {
+                played.filed.extend(message);
+            }
+        }
+        played.added.extend(piece(&packet));
+        played.sent.push(Sent { packet, lost: false });
+
+        answers += 1;
+        let lost = answers == LOST;
+        if lost {
+            copy = copied(reader.time_out());
+        } else {
+            for event in events(&answer) {
+                match reader.hear(event) {
+                    ReaderTold::Sent(Outcome::Delivered { copies }) => played.delivered = Some(copies),
+                    ReaderTold::Sent(outcome) => copy = copied(outcome),
+                    _ => {}
+                }
+            }
+        }
+        played.sent.push(Sent { packet: answer, lost });
+    }
+    played
+}
+
+/// What one end sends, as the other hears it.
+fn events(packet: &[u8]) -> impl Iterator<Item = Event> + '_ {
+    packet.iter().map(|byte| Event::Byte(*byte)).chain([Event::CharacterGap])
+}
+
+fn copied(outcome: Outcome) -> Option<Vec<u8>> {
+    match outcome {
+        Outcome::Copy(copy) => Some(copy.to_vec()),
+        _ => None,
+    }
+}
+
+/// What a packet has of the card: its data without the code type.
+pub fn piece(packet: &[u8]) -> &[u8] {
+    check(packet).ok().and_then(|head| head.data(packet).get(1..)).unwrap_or_default()
+}

@@ -1,0 +1,12 @@
+//! `desk` as a program: what it reads, writes and says.
+
+mod cases;
+mod cuts;
+mod help;
+mod listings;
+mod pipes;
+mod places;
+mod rooms;
+mod run;
+mod starts;
+mod story;

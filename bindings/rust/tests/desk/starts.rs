@@ -1,0 +1,55 @@
+//! Messages of every length around the limits: `S`.
+
+use motikhund::packet::{build, DECODE_DATA, MORE, READER, ROOM};
+
+use crate::run::{hex, lines};
+
+const ACK: &str = "04 D0 04 00 FF 28 .";
+
+fn message(size: usize) -> Vec<u8> {
+    (0..size).map(|place| (place % 251) as u8).collect()
+}
+
+fn start(size: usize) -> String {
+    format!("S 1B {} ;", hex(&message(size)))
+}
+
+/// The copies of a message that is acknowledged at once, and that it is delivered.
+fn delivered(size: usize) -> String {
+    let message = message(size);
+    let mut pieces: Vec<&[u8]> = message.chunks(250).collect();
+    if pieces.is_empty() {
+        pieces.push(&[]);
+    }
+    let last = pieces.len() - 1;
+    let copy = |(number, piece): (usize, &&[u8])| {
+        let status = if number == last { 0 } else { MORE };
+        let mut room = [0; ROOM];
+        let packet = build(&mut room, DECODE_DATA, READER, status, &[&[0x1B], *piece].concat());
+        format!("C {}\n", hex(packet.expect("a packet")))
+    };
+    pieces.iter().enumerate().map(copy).chain(["D 0\n".to_string()]).collect()
+}
+
+#[test]
+fn up_to_4096_bytes_are_sent() {
+    for (size, pieces) in [(0, 1), (1, 1), (250, 1), (251, 2), (4_095, 17), (4_096, 17)] {
+        let due = delivered(size);
+        assert_eq!(due.lines().count(), pieces + 1);
+        assert_eq!(lines("reader", &format!("{}{}", start(size), ACK.repeat(pieces))), due);
+    }
+}
+
+/// A refused start is no start: the next one goes out.
+#[test]
+fn longer_ones_are_refused() {
+    for size in [4_097, 4_098, 10_000] {
+        assert_eq!(lines("reader", &format!("{} {} {ACK}", start(size), start(1))), format!("R 11\n{}", delivered(1)));
+    }
+}
+
+#[test]
+fn one_at_a_time() {
+    let due = format!("{}R 11\nD 0\n", delivered(1).replace("D 0\n", ""));
+    assert_eq!(lines("reader", &format!("{} {} {ACK}", start(1), start(0))), due);
+}
