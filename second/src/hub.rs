@@ -3,6 +3,9 @@
 use crate::framer::{Framed, Framer, LineEvent};
 use crate::packet::{ack, nak, Packet, Refusal, DECODE_DATA, HOST, MORE, READER};
 
+/// The least answer room that an event is taken with: the longest answer is a NAK.
+pub const ANSWER_ROOM: usize = 7;
+
 /// The longest message, its code type not counted.
 pub const LONGEST_MESSAGE: usize = 4_096;
 
@@ -52,6 +55,14 @@ pub struct Hub {
 }
 
 impl Hub {
+    /// An event with an answer room of this size. Where that is too small, it is as if nothing had come.
+    pub fn take_in_room(&mut self, event: LineEvent, room: usize) -> HubStep {
+        if room < ANSWER_ROOM {
+            return HubStep { packet: None, done: Done::Refused(Refusal::Room) };
+        }
+        self.take(event)
+    }
+
     pub fn take(&mut self, event: LineEvent) -> HubStep {
         let step = match self.framer.take(event) {
             Framed::Nothing => HubStep { packet: None, done: Done::Nothing },

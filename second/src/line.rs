@@ -1,5 +1,6 @@
-//! A lossy line between the two proved programs. This program is the wire: it starts messages at the reader, carries
-//! copies and answers, loses or spoils some, and checks from outside what the demand on the line promises.
+//! A lossy line between the proved programs. This program is the wire: it starts messages at the reader, carries copies
+//! and answers, loses or spoils some, and checks from outside what the demand on the line promises. There are two such
+//! lines at the same time, one for each of the programs that are a hub.
 
 use std::collections::VecDeque;
 use std::io::{BufRead, BufReader, Write};
@@ -8,14 +9,13 @@ use std::sync::mpsc::{channel, Receiver, RecvTimeoutError};
 use std::thread;
 use std::time::{Duration, Instant};
 
-use crate::compare::Programs;
 use crate::dice::Dice;
 use crate::framer::{Framed, Framer, LineEvent};
 use crate::hub::{Message, LONGEST_MESSAGE};
 use crate::listing::{push_bytes, Listing, Side};
 use crate::packet::{lay_out, written, CHECKSUM, CMD_ACK, DECODE_DATA, HEADER, MARK, MORE, READER};
-use crate::program::spawn;
-use crate::streams::{open_stream, spoiled};
+use crate::program::{said, Programs};
+use crate::streams::{open_stream, spoiled, Kind};
 
 pub const MESSAGES: u64 = 10_000;
 /// After so many messages both ends get noise and are brought back to the state that the demand starts from.
@@ -26,9 +26,9 @@ const REMEMBERED: usize = 40;
 /// What was wrong, in words.
 type Breach = String;
 
-/// One of the two programs, with a machine of this program beside it that knows how many lines are due.
+/// One of the programs, with a machine of this program beside it that knows how many lines are due.
 struct Coupled {
-    name: &'static str,
+    side: Side,
     child: Child,
     to: ChildStdin,
     lines: Receiver<String>,
@@ -38,8 +38,8 @@ struct Coupled {
 }
 
 impl Coupled {
-    fn start(name: &'static str, path: &str, side: Side) -> std::io::Result<Coupled> {
-        let (child, to, from) = spawn(path)?;
+    fn start(programs: &Programs, side: Side) -> std::io::Result<Coupled> {
+        let (child, to, from) = programs.spawn(side)?;
         let (send, lines) = channel();
         thread::spawn(move || {
             for line in BufReader::new(from).lines() {
@@ -48,7 +48,11 @@ impl Coupled {
                 }
             }
         });
-        Ok(Coupled { name, child, to, lines, own: Listing::new(side), log: VecDeque::new() })
+        Ok(Coupled { side, child, to, lines, own: Listing::new(side), log: VecDeque::new() })
+    }
+
+    fn name(&self) -> &'static str {
+        self.side.program()
     }
 
     /// Sends a part of the input and gives the lines that the program prints for it.
@@ -58,7 +62,7 @@ impl Coupled {
         self.own.feed(text, &mut due);
         let due = String::from_utf8(due).expect("plain lines");
         let sent = self.to.write_all(text).and_then(|()| self.to.flush());
-        sent.map_err(|error| format!("{} takes no more: {error}", self.name))?;
+        sent.map_err(|error| format!("{} takes no more: {error}", self.name()))?;
         due.lines().map(|line| self.next_line(line)).collect()
     }
 
@@ -69,11 +73,11 @@ impl Coupled {
                 if line == due {
                     Ok(line)
                 } else {
-                    Err(format!("{} printed {line:?} where {due:?} was due", self.name))
+                    Err(format!("{} printed {line:?} where {due:?} was due", self.name()))
                 }
             }
-            Err(RecvTimeoutError::Timeout) => Err(format!("{} did not print {due:?} in time", self.name)),
-            Err(RecvTimeoutError::Disconnected) => Err(format!("{} ended before {due:?}", self.name)),
+            Err(RecvTimeoutError::Timeout) => Err(format!("{} did not print {due:?} in time", self.name())),
+            Err(RecvTimeoutError::Disconnected) => Err(format!("{} ended before {due:?}", self.name())),
         }
     }
 
@@ -84,23 +88,34 @@ impl Coupled {
         self.log.push_back(what);
     }
 
-    /// Ends the input; nothing more may come.
-    fn close(mut self) -> Result<(), Breach> {
-        drop(self.to);
-        let more = match self.lines.recv_timeout(LIMIT) {
-            Ok(line) => Err(format!("{} printed {line:?} with nothing due", self.name)),
-            Err(RecvTimeoutError::Timeout) => Err(format!("{} does not end", self.name)),
-            Err(RecvTimeoutError::Disconnected) => Ok(()),
-        };
-        if more.is_err() {
-            let _ = self.child.kill();
+    /// Sends something wrong: nothing else may come before its `E`, and the program ends though its input stays open.
+    fn close(&mut self) -> Result<(), Breach> {
+        self.tell(b"x")?;
+        let name = self.name();
+        match self.lines.recv_timeout(LIMIT) {
+            Ok(line) => return Err(format!("{name} printed {line:?} after it had stopped")),
+            Err(RecvTimeoutError::Timeout) => return Err(format!("{name} does not end at a wrong character")),
+            Err(RecvTimeoutError::Disconnected) => {}
         }
+        let status = self.child.wait().map_err(|error| format!("{name}: {error}"))?;
+        if self.side != Side::Hub && status.success() {
+            return Err(format!("{name} ended with status 0 after a wrong character"));
+        }
+        Ok(())
+    }
+
+    /// Also keeps what it has said on standard error.
+    fn stop(&mut self) {
+        let _ = self.child.kill();
         let _ = self.child.wait();
-        more
+        let said = said(&mut self.child);
+        if !said.is_empty() {
+            self.note(format!("on standard error: {}", said.escape_ascii()));
+        }
     }
 
     fn show_log(&self) {
-        println!("last said with {}:", self.name);
+        println!("last said with {}:", self.name());
         self.log.iter().for_each(|what| println!("  {what}"));
     }
 }
@@ -179,35 +194,63 @@ struct Wire {
     counts: Counts,
 }
 
-/// Whether the demand held.
+/// How a line ended.
+struct Ended {
+    wire: Wire,
+    breach: Option<Breach>,
+}
+
+/// Whether the demand held on both lines.
 pub fn line(programs: &Programs, seed: u64, messages: u64) -> std::io::Result<bool> {
     let begin = Instant::now();
+    let share = messages.div_ceil(2);
+    let seeds = [seed, seed.wrapping_add(1)];
+    let (one, other) = thread::scope(|scope| {
+        let one = scope.spawn(|| one_line(programs, Side::Hub, seeds[0], share));
+        let other = one_line(programs, Side::DeskHub, seeds[1], share);
+        (one.join().expect("no line broke"), other)
+    });
+    let lines = [one?, other?];
+    println!(
+        "{:>12}{:>12}  (behind both: {})",
+        Side::Hub.program(),
+        Side::DeskHub.program(),
+        Side::DeskReader.program()
+    );
+    Counts::print(&lines[0].wire.counts, &lines[1].wire.counts);
+    println!("in {:.1} s", begin.elapsed().as_secs_f64());
+    let held = lines.iter().all(|line| line.breach.is_none());
+    if held {
+        println!("the demand held");
+    }
+    lines.into_iter().zip(seeds).for_each(|(line, seed)| line.show_breach(seed));
+    Ok(held)
+}
+
+fn one_line(programs: &Programs, hub: Side, seed: u64, messages: u64) -> std::io::Result<Ended> {
     let mut wire = Wire {
-        hub: Coupled::start("the hub", programs.hub, Side::Hub)?,
-        reader: Coupled::start("the reader", programs.reader, Side::Reader)?,
+        hub: Coupled::start(programs, hub)?,
+        reader: Coupled::start(programs, Side::DeskReader)?,
         dice: Dice::new(seed),
         weather: WEATHERS[0],
         previous: None,
         counts: Counts::default(),
     };
-    let ran = wire.run(messages);
-    wire.counts.print(begin.elapsed());
-    if let Err(breach) = ran {
+    let ran = wire.run(messages).and_then(|()| wire.hub.close()).and_then(|()| wire.reader.close());
+    wire.hub.stop();
+    wire.reader.stop();
+    Ok(Ended { wire, breach: ran.err() })
+}
+
+impl Ended {
+    fn show_breach(self, seed: u64) {
+        let Some(breach) = self.breach else {
+            return;
+        };
         println!("BREACH (seed {seed}): {breach}");
-        wire.hub.show_log();
-        wire.reader.show_log();
-        for mut child in [wire.hub.child, wire.reader.child] {
-            let _ = child.kill();
-            let _ = child.wait();
-        }
-        return Ok(false);
+        self.wire.hub.show_log();
+        self.wire.reader.show_log();
     }
-    let closed = wire.hub.close().and(wire.reader.close());
-    match &closed {
-        Ok(()) => println!("the demand held"),
-        Err(breach) => println!("BREACH (seed {seed}): {breach}"),
-    }
-    Ok(closed.is_ok())
 }
 
 impl Wire {
@@ -222,14 +265,19 @@ impl Wire {
         Ok(())
     }
 
-    /// Noise at both ends, then a message gap at the hub and, at the reader, nothing out, nothing begun, 9Fh on.
+    /// Noise at both ends, then full rooms, a message gap at the hub and, at the reader, nothing out, nothing begun,
+    /// 9Fh on.
     fn new_round(&mut self) -> Result<(), Breach> {
         let events = self.dice.between(1, 400) as u64;
-        let mut text = open_stream(Side::Hub, self.dice.next(), events).text;
-        text.extend_from_slice(b" /\n");
+        let (kind, calm) = match self.hub.side {
+            Side::Hub => (Kind::Hub, &b" /\n"[..]),
+            _ => (Kind::DeskHub, &b" K FF FF ; /\n"[..]),
+        };
+        let mut text = open_stream(kind, self.dice.next(), events).text;
+        text.extend_from_slice(calm);
         self.hub.tell(&text)?;
-        let mut text = open_stream(Side::Reader, self.dice.next(), events).text;
-        text.extend_from_slice(b" P 04 C8 04 00 FF 30 .\n");
+        let mut text = open_stream(Kind::DeskReader, self.dice.next(), events).text;
+        text.extend_from_slice(b" K FF FF ; P 04 C8 04 00 FF 30 .\n");
         self.reader.tell(&text)?;
         self.previous = None;
         self.weather = self.dice.pick(&WEATHERS);
@@ -258,7 +306,7 @@ impl Wire {
         let mut lines = self.reader.tell(&text)?;
         let mut timed_out = false;
         loop {
-            match said(&lines)? {
+            match reader_said(&lines)? {
                 Said::Nothing if timed_out => return Err("a time-out with a message out did nothing".into()),
                 Said::Nothing => {
                     timed_out = true;
@@ -364,14 +412,14 @@ impl Outgoing {
         Ok(())
     }
 
-    /// Checks what the hub hands out, and gives its answer.
+    /// Checks what the hub hands out, and gives its answer. A hub that tells refusals may have had 1 to 3.
     fn hub_said(&mut self, lines: &[String]) -> Result<Option<Vec<u8>>, Breach> {
         let mut answer = None;
         for line in lines {
-            let bytes = bytes_of(line)?;
             match (&line[..1], &answer) {
-                ("A", None) => answer = Some(bytes),
-                ("M", None) => self.hand_out(&bytes)?,
+                ("R", None) if matches!(number_of(line)?, 1..=3) => {}
+                ("A", None) => answer = Some(bytes_of(line)?),
+                ("M", None) => self.hand_out(&bytes_of(line)?)?,
                 _ => return Err(format!("the hub said too much: {line:?}")),
             }
         }
@@ -398,8 +446,8 @@ impl Outgoing {
 }
 
 impl Counts {
-    fn print(&self, took: Duration) {
-        let rows = [
+    fn rows(&self) -> [(u64, &'static str); 13] {
+        [
             (self.messages, "messages"),
             (self.delivered, "delivered"),
             (self.failed, "failed"),
@@ -413,11 +461,14 @@ impl Counts {
             (self.answers_lost, "answers lost"),
             (self.answers_spoiled, "answers spoiled"),
             (self.time_outs, "time-outs"),
-        ];
-        for (count, name) in rows {
-            println!("{count:>10}  {name}");
+        ]
+    }
+
+    /// The counts of both lines beside each other.
+    fn print(one: &Counts, other: &Counts) {
+        for ((one, name), (other, _)) in one.rows().into_iter().zip(other.rows()) {
+            println!("{one:>12}{other:>12}  {name}");
         }
-        println!("in {:.1} s", took.as_secs_f64());
     }
 }
 
@@ -516,7 +567,7 @@ fn number_of(line: &str) -> Result<usize, Breach> {
 }
 
 /// With a message out and no command on the line, refusals 1 to 3 may be told but nothing else sent.
-fn said(lines: &[String]) -> Result<Said, Breach> {
+fn reader_said(lines: &[String]) -> Result<Said, Breach> {
     let mut said = Said::Nothing;
     for line in lines {
         match (&line[..1], &said) {

@@ -1,25 +1,34 @@
-//! The two listings: their notation read, their lines printed.
+//! The listings: their notation read, their lines printed.
 
 use std::io::{ErrorKind, Read, Write};
 
 use crate::framer::LineEvent;
 use crate::hub::{Done, Hub, HubStep, LONGEST_MESSAGE};
+use crate::packet::LONGEST;
 use crate::reader::{Reader, Step};
 use crate::sender::End;
 
 #[derive(Clone, Copy, PartialEq, Eq, Debug)]
 pub enum Side {
+    /// The hub listing of document 01.
     Hub,
-    Reader,
+    /// The hub's whole end, which tells refusals too and takes other rooms.
+    DeskHub,
+    /// The reader's whole end.
+    DeskReader,
 }
 
 #[derive(Clone, PartialEq, Eq, Debug)]
-pub enum Token {
+enum Token {
     Line(LineEvent),
     TimeOut,
     PowerUp,
     /// Code type, then at most the first 4,097 bytes.
     Start(Vec<u8>),
+    /// The present values are to be shown.
+    Show,
+    /// The size of the answer room from here on.
+    Room(usize),
 }
 
 #[derive(Clone, PartialEq, Eq, Debug)]
@@ -29,17 +38,22 @@ enum Scanned {
     Wrong,
 }
 
+/// A token with bytes, of which the `;` has not come.
+struct Open {
+    letter: u8,
+    bytes: Vec<u8>,
+}
+
 struct Tokeniser {
     side: Side,
     /// The first digit of a pair.
     digit: Option<u8>,
-    /// What has come after an `S`.
-    message: Option<Vec<u8>>,
+    open: Option<Open>,
 }
 
 impl Tokeniser {
     fn new(side: Side) -> Tokeniser {
-        Tokeniser { side, digit: None, message: None }
+        Tokeniser { side, digit: None, open: None }
     }
 
     fn take(&mut self, character: u8) -> Scanned {
@@ -56,43 +70,57 @@ impl Tokeniser {
     }
 
     fn byte(&mut self, byte: u8) -> Scanned {
-        let Some(message) = &mut self.message else {
+        let Some(open) = &mut self.open else {
             return Scanned::Token(Token::Line(LineEvent::Byte(byte)));
         };
         // One byte over the longest is refused like any more, so the rest need not be kept.
-        if message.len() < 1 + LONGEST_MESSAGE + 1 {
-            message.push(byte);
+        if open.bytes.len() < 1 + LONGEST_MESSAGE + 1 {
+            open.bytes.push(byte);
         }
         Scanned::Nothing
     }
 
     fn sign(&mut self, character: u8) -> Scanned {
-        match (self.side, self.message.is_some(), character) {
-            (_, _, b' ' | b'\n' | b'\r') => Scanned::Nothing,
-            (_, true, b';') => self.end_of_message(),
-            (_, true, _) => Scanned::Wrong,
-            (_, false, b'.') => Scanned::Token(Token::Line(LineEvent::Gap)),
-            (_, false, b'/') => Scanned::Token(Token::Line(LineEvent::MessageGap)),
-            (Side::Reader, false, b'T') => Scanned::Token(Token::TimeOut),
-            (Side::Reader, false, b'P') => Scanned::Token(Token::PowerUp),
-            (Side::Reader, false, b'S') => {
-                self.message = Some(Vec::new());
+        match (character, self.open.take()) {
+            (b' ' | b'\n' | b'\r', open) => {
+                self.open = open;
+                Scanned::Nothing
+            }
+            (b';', Some(open)) => open.ended(),
+            (_, Some(_)) => Scanned::Wrong,
+            (b'.', None) => Scanned::Token(Token::Line(LineEvent::Gap)),
+            (b'/', None) => Scanned::Token(Token::Line(LineEvent::MessageGap)),
+            (letter, None) => self.letter(letter),
+        }
+    }
+
+    fn letter(&mut self, letter: u8) -> Scanned {
+        match (self.side, letter) {
+            (Side::DeskReader, b'T') => Scanned::Token(Token::TimeOut),
+            (Side::DeskReader, b'P') => Scanned::Token(Token::PowerUp),
+            (Side::DeskReader, b'U') => Scanned::Token(Token::Show),
+            (Side::DeskReader, b'S') | (Side::DeskReader | Side::DeskHub, b'K') => {
+                self.open = Some(Open { letter, bytes: Vec::new() });
                 Scanned::Nothing
             }
             _ => Scanned::Wrong,
         }
     }
 
-    fn end_of_message(&mut self) -> Scanned {
-        match self.message.take() {
-            Some(message) if !message.is_empty() => Scanned::Token(Token::Start(message)),
-            _ => Scanned::Wrong,
-        }
-    }
-
-    /// A message without its `;` starts nothing, but a lone digit is wrong at the end too.
+    /// A token without its `;` does nothing, but a lone digit is wrong at the end too.
     fn ends_right(&self) -> bool {
         self.digit.is_none()
+    }
+}
+
+impl Open {
+    /// How many pairs are right is judged at the `;` only: without one they do nothing, however many.
+    fn ended(self) -> Scanned {
+        match (self.letter, &self.bytes[..]) {
+            (b'K', [high, low]) => Scanned::Token(Token::Room(usize::from(*high) * 256 + usize::from(*low))),
+            (b'S', [_, ..]) => Scanned::Token(Token::Start(self.bytes)),
+            _ => Scanned::Wrong,
+        }
     }
 }
 
@@ -106,18 +134,23 @@ enum Machine {
 }
 
 pub struct Listing {
+    side: Side,
     tokeniser: Tokeniser,
     machine: Machine,
+    /// The size of the answer room.
+    room: usize,
+    /// How many characters have been looked at.
+    read: u64,
     stopped: bool,
 }
 
 impl Listing {
     pub fn new(side: Side) -> Listing {
         let machine = match side {
-            Side::Hub => Machine::Hub(Hub::default()),
-            Side::Reader => Machine::Reader(Reader::new()),
+            Side::Hub | Side::DeskHub => Machine::Hub(Hub::default()),
+            Side::DeskReader => Machine::Reader(Reader::new()),
         };
-        Listing { tokeniser: Tokeniser::new(side), machine, stopped: false }
+        Listing { side, tokeniser: Tokeniser::new(side), machine, room: LONGEST, read: 0, stopped: false }
     }
 
     /// Acts on the characters and appends the lines due.
@@ -126,9 +159,10 @@ impl Listing {
             if self.stopped {
                 return;
             }
+            self.read += 1;
             match self.tokeniser.take(*character) {
                 Scanned::Nothing => {}
-                Scanned::Token(token) => self.machine.act(&token, lines),
+                Scanned::Token(token) => self.act(&token, lines),
                 Scanned::Wrong => self.stop(lines),
             }
         }
@@ -140,37 +174,48 @@ impl Listing {
         }
     }
 
-    pub fn stopped(&self) -> bool {
-        self.stopped
+    /// The number of the character, from 1, at which it stopped.
+    pub fn stopped(&self) -> Option<u64> {
+        self.stopped.then_some(self.read)
     }
 
     fn stop(&mut self, lines: &mut Vec<u8>) {
         self.stopped = true;
         lines.extend_from_slice(b"E\n");
     }
-}
 
-impl Machine {
     fn act(&mut self, token: &Token, lines: &mut Vec<u8>) {
-        match (self, token) {
-            (Machine::Hub(hub), Token::Line(event)) => print_hub(&hub.take(*event), lines),
+        match (&mut self.machine, token) {
+            // The room is the caller's: a power-up leaves it as it is.
+            (_, Token::Room(room)) => self.room = *room,
+            (Machine::Hub(hub), Token::Line(event)) => {
+                print_hub(self.side, &hub.take_in_room(*event, self.room), lines)
+            }
             (Machine::Hub(_), _) => unreachable!("no such token on the hub's side"),
-            (Machine::Reader(reader), Token::Line(event)) => print_reader(&reader.take(*event), lines),
+            (Machine::Reader(reader), Token::Line(event)) => {
+                print_reader(&reader.take_in_room(*event, self.room), lines)
+            }
+            // These two lend the sender's room alone, and that has full size.
             (Machine::Reader(reader), Token::TimeOut) => print_reader(&reader.time_out(), lines),
-            (Machine::Reader(reader), Token::PowerUp) => reader.power_up(),
             (Machine::Reader(reader), Token::Start(message)) => {
                 print_reader(&reader.start(message[0], &message[1..]), lines)
             }
+            (Machine::Reader(reader), Token::PowerUp) => reader.power_up(),
+            (Machine::Reader(reader), Token::Show) => push_byte_line(b'U', Some(&reader.table().present), lines),
         }
     }
 }
 
-fn print_hub(step: &HubStep, lines: &mut Vec<u8>) {
-    if let Done::HandedOut(message) = &step.done {
-        lines.push(b'M');
-        push_bytes(&[message.code_type], lines);
-        push_bytes(&message.bytes, lines);
-        lines.push(b'\n');
+fn print_hub(side: Side, step: &HubStep, lines: &mut Vec<u8>) {
+    match &step.done {
+        Done::Refused(refusal) if side == Side::DeskHub => push_number_line(b'R', &[refusal.number()], lines),
+        Done::HandedOut(message) => {
+            lines.push(b'M');
+            push_bytes(&[message.code_type], lines);
+            push_bytes(&message.bytes, lines);
+            lines.push(b'\n');
+        }
+        _ => {}
     }
     push_byte_line(b'A', step.answer().as_deref(), lines);
 }
@@ -231,8 +276,9 @@ pub fn output(side: Side, input: &[u8]) -> Vec<u8> {
     lines
 }
 
-/// The program itself: reads what is there, acts, and has the lines written out before it waits for more.
-pub fn run(side: Side, mut input: impl Read, mut out: impl Write) -> std::io::Result<()> {
+/// The program itself: reads what is there, acts, and has the lines written out before it waits for more. Gives the
+/// place at which it stopped.
+pub fn run(side: Side, mut input: impl Read, mut out: impl Write) -> std::io::Result<Option<u64>> {
     let mut listing = Listing::new(side);
     let mut chunk = vec![0; 65_536];
     let mut lines = Vec::new();
@@ -249,8 +295,8 @@ pub fn run(side: Side, mut input: impl Read, mut out: impl Write) -> std::io::Re
         out.write_all(&lines)?;
         out.flush()?;
         lines.clear();
-        if size == 0 || listing.stopped() {
-            return Ok(());
+        if size == 0 || listing.stopped().is_some() {
+            return Ok(listing.stopped());
         }
     }
 }

@@ -3,17 +3,20 @@
 use std::io::Write;
 use std::process::ExitCode;
 
-use second::compare::{self, Programs};
 use second::listing::{self, Side};
-use second::{line, streams};
+use second::program::Programs;
+use second::streams::{self, Kind};
+use second::{compare, line};
 
 const USAGE: &str = "usage:
-  second hub                                  the hub listing, from standard input
-  second reader                               the reader listing
-  second streams hub|reader SEED EVENTS       write a seeded stream
-  second streams hub|reader sweep             write the stream that tries whole what is few enough
-  second compare HUB READER [EVENTS [SEED]]   compare two programs with this one
-  second line HUB READER [SEED [MESSAGES]]    couple two programs by a lossy line";
+  second hub                                         the hub listing, from standard input
+  second desk hub|reader                             the listings of a whole end
+  second streams KIND SEED EVENTS                    write a seeded stream
+  second streams KIND sweep                          write the stream that tries whole what is few enough
+                                                     (KIND is hub, reader, desk-hub or desk-reader)
+  second compare HUB_LISTING DESK [EVENTS [SEED]]    compare two programs with this one
+  second notation HUB_LISTING DESK                   the same for every character in every state of the notation
+  second line HUB_LISTING DESK [SEED [MESSAGES]]     couple them by a lossy line";
 
 fn main() -> ExitCode {
     let words: Vec<String> = std::env::args().skip(1).collect();
@@ -35,39 +38,43 @@ fn main() -> ExitCode {
 /// Whether all went well; nothing for words that are not understood.
 fn run(words: &[&str]) -> Option<std::io::Result<bool>> {
     match words {
-        ["hub"] => Some(run_listing(Side::Hub)),
-        ["reader"] => Some(run_listing(Side::Reader)),
-        ["streams", side, "sweep"] => Some(write_out(&streams::sweep(side_named(side)?).text)),
-        ["streams", side, seed, events] => {
-            let stream = streams::stream(side_named(side)?, seed.parse().ok()?, events.parse().ok()?);
+        // Only desk's status tells whether something was wrong.
+        ["hub"] => Some(run_listing(Side::Hub).map(|_| true)),
+        ["desk", "hub"] => Some(run_desk(Side::DeskHub)),
+        ["desk", "reader"] => Some(run_desk(Side::DeskReader)),
+        ["streams", kind, "sweep"] => Some(write_out(&streams::sweep(Kind::named(kind)?).text)),
+        ["streams", kind, seed, events] => {
+            let stream = streams::stream(Kind::named(kind)?, seed.parse().ok()?, events.parse().ok()?);
             Some(write_out(&stream.text))
         }
-        ["compare", hub, reader, rest @ ..] if rest.len() <= 2 => {
+        ["compare", hub_listing, desk, rest @ ..] if rest.len() <= 2 => {
             let [events, seed] = numbers(rest, [compare::EVENTS, 1])?;
-            Some(compare::compare(&Programs { hub, reader }, events, seed))
+            Some(compare::compare(&Programs { hub_listing, desk }, events, seed))
         }
-        ["line", hub, reader, rest @ ..] if rest.len() <= 2 => {
+        ["notation", hub_listing, desk] => Some(compare::notation(&Programs { hub_listing, desk })),
+        ["line", hub_listing, desk, rest @ ..] if rest.len() <= 2 => {
             let [seed, messages] = numbers(rest, [1, line::MESSAGES])?;
-            Some(line::line(&Programs { hub, reader }, seed, messages))
+            Some(line::line(&Programs { hub_listing, desk }, seed, messages))
         }
         _ => None,
     }
 }
 
-fn run_listing(side: Side) -> std::io::Result<bool> {
-    listing::run(side, std::io::stdin().lock(), std::io::stdout().lock()).map(|()| true)
+/// Gives the place at which the listing stopped.
+fn run_listing(side: Side) -> std::io::Result<Option<u64>> {
+    listing::run(side, std::io::stdin().lock(), std::io::stdout().lock())
+}
+
+fn run_desk(side: Side) -> std::io::Result<bool> {
+    let stopped = run_listing(side)?;
+    if let Some(place) = stopped {
+        eprintln!("second: wrong at character {place}");
+    }
+    Ok(stopped.is_none())
 }
 
 fn write_out(text: &[u8]) -> std::io::Result<bool> {
     std::io::stdout().write_all(text).map(|()| true)
-}
-
-fn side_named(name: &str) -> Option<Side> {
-    match name {
-        "hub" => Some(Side::Hub),
-        "reader" => Some(Side::Reader),
-        _ => None,
-    }
 }
 
 /// The numbers given, else those that stand for them.

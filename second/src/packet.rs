@@ -28,6 +28,22 @@ pub const SCAN_ENABLE: u8 = 0xE9;
 pub const SCAN_DISABLE: u8 = 0xEA;
 pub const DECODE_DATA: u8 = 0xF3;
 
+/// Every opcode that a reader knows.
+pub const COMMANDS: [u8; 12] = [
+    AIM_OFF,
+    AIM_ON,
+    PARAM_SEND,
+    PARAM_REQUEST,
+    PARAM_DEFAULTS,
+    START_SESSION,
+    STOP_SESSION,
+    BEEP,
+    LED_ON,
+    LED_OFF,
+    SCAN_ENABLE,
+    SCAN_DISABLE,
+];
+
 /// Length, opcode, source, status.
 pub const HEADER: usize = 4;
 pub const CHECKSUM: usize = 2;

@@ -8,6 +8,9 @@ use crate::table::{allowed, beep, Beep, Table, NO_BEEP, ROWS};
 /// In a PARAM_REQUEST: all parameters.
 pub const ALL: u8 = 0xFE;
 
+/// The least answer room that an event is taken with: the longest answer is a PARAM_SEND of all nine.
+pub const ANSWER_ROOM: usize = 25;
+
 /// What the commands switch, besides the table.
 #[derive(Clone, Copy, PartialEq, Eq, Debug)]
 pub struct Switches {
@@ -52,6 +55,12 @@ pub struct Reader {
     sender: Sender,
 }
 
+impl Default for Reader {
+    fn default() -> Reader {
+        Reader::new()
+    }
+}
+
 impl Reader {
     /// Switched on with the house defaults.
     pub fn new() -> Reader {
@@ -68,6 +77,14 @@ impl Reader {
         let mut table = self.table;
         table.power_up();
         *self = Reader { table, ..Reader::new() };
+    }
+
+    /// An event with an answer room of this size. Where that is too small, it is as if nothing had come.
+    pub fn take_in_room(&mut self, event: LineEvent, room: usize) -> Step {
+        if room < ANSWER_ROOM {
+            return Step { refusal: Some(Refusal::Room), ..Step::default() };
+        }
+        self.take(event)
     }
 
     pub fn take(&mut self, event: LineEvent) -> Step {

@@ -2,35 +2,51 @@
 
 /// `differs` says whether a stream still shows the difference; it may say no for want of time.
 pub fn shrink(text: &[u8], differs: &mut dyn FnMut(&[u8]) -> bool) -> Vec<u8> {
-    // First by what lies between gaps, which goes fast, then token by token.
+    // First by what lies between gaps, which goes fast, then by tokens, then by what is inside of those.
     let runs = shortest_front(split_runs(text), differs);
     let runs = leave_out(runs, differs);
     let tokens = leave_out(split_tokens(&runs.concat()), differs);
+    let pieces = leave_out(split_pieces(&tokens.concat()), differs);
     // Easier to read, if the spacing had no part in it.
-    let spaced = tokens.join(&b' ').to_ascii_uppercase();
+    let spaced = pieces.join(&b' ').to_ascii_uppercase();
     if differs(&spaced) {
         spaced
     } else {
-        tokens.concat()
+        pieces.concat()
     }
 }
 
 /// The stream in parts that end with a gap or one of the reader's own events.
 fn split_runs(text: &[u8]) -> Vec<Vec<u8>> {
-    text.split_inclusive(|character| b"./;TP".contains(character)).map(<[u8]>::to_vec).collect()
+    text.split_inclusive(|character| b"./;TPU".contains(character)).map(<[u8]>::to_vec).collect()
+}
+
+/// The stream in pairs of digits, single characters, and whole tokens with bytes: half of one is mostly wrong.
+fn split_tokens(text: &[u8]) -> Vec<Vec<u8>> {
+    let mut tokens: Vec<Vec<u8>> = Vec::new();
+    let mut open = false;
+    for piece in split_pieces(text) {
+        let (opens, ends) = (piece == b"S" || piece == b"K", piece == b";");
+        match tokens.last_mut() {
+            Some(token) if open => token.extend(piece),
+            _ => tokens.push(piece),
+        }
+        open = (open || opens) && !ends;
+    }
+    tokens
 }
 
 /// The stream in pairs of digits and single characters.
-fn split_tokens(text: &[u8]) -> Vec<Vec<u8>> {
-    let mut tokens = Vec::new();
+fn split_pieces(text: &[u8]) -> Vec<Vec<u8>> {
+    let mut pieces = Vec::new();
     let mut rest = text;
     while !rest.is_empty() {
         let pair = rest.len() > 1 && rest[..2].iter().all(u8::is_ascii_hexdigit);
-        let (token, after) = rest.split_at(if pair { 2 } else { 1 });
-        tokens.push(token.to_vec());
+        let (piece, after) = rest.split_at(if pair { 2 } else { 1 });
+        pieces.push(piece.to_vec());
         rest = after;
     }
-    tokens
+    pieces
 }
 
 /// A front of the parts that still differs. The programs stream, so the front where the difference comes is enough.

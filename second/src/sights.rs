@@ -5,8 +5,8 @@ use crate::packet::Refusal;
 /// One place for each refusal number, 0 unused.
 const NUMBERS: usize = 14;
 
-/// A sight of the streams themselves: their endings, right and wrong.
-pub const ENDINGS_SEEN: &str = "endings of a stream, right and wrong";
+/// A sight's name with its number of members.
+pub type Name = (&'static str, usize);
 
 /// A state worth reaching; where it has several members (codes, opcodes, numbers) each must be reached.
 struct Sight {
@@ -20,9 +20,8 @@ pub struct Sights {
 }
 
 impl Sights {
-    /// Names with their number of members.
-    pub fn new(names: &[(&'static str, usize)]) -> Sights {
-        let sights = names.iter().map(|(name, members)| Sight { name, counts: vec![0; *members] }).collect();
+    pub fn new<'a>(names: impl IntoIterator<Item = &'a Name>) -> Sights {
+        let sights = names.into_iter().map(|(name, members)| Sight { name, counts: vec![0; *members] }).collect();
         Sights { refusals: [0; NUMBERS], sights }
     }
 
@@ -37,8 +36,12 @@ impl Sights {
     }
 
     pub fn see_member(&mut self, name: &str, member: usize) {
+        self.counts(name)[member] += 1;
+    }
+
+    fn counts(&mut self, name: &str) -> &mut [u64] {
         let sight = self.sights.iter_mut().find(|sight| sight.name == name);
-        sight.unwrap_or_else(|| panic!("no sight named {name:?}")).counts[member] += 1;
+        &mut sight.unwrap_or_else(|| panic!("no sight named {name:?}")).counts
     }
 
     pub fn refusal(&mut self, refusal: Refusal) {
@@ -49,14 +52,11 @@ impl Sights {
         self.refusals[number]
     }
 
+    /// The other one may have fewer sights, but none that is not here.
     pub fn add(&mut self, other: &Sights) {
-        for (mine, more) in self.refusals.iter_mut().zip(other.refusals) {
-            *mine += more;
-        }
-        for (mine, more) in self.sights.iter_mut().zip(&other.sights) {
-            for (count, more) in mine.counts.iter_mut().zip(&more.counts) {
-                *count += more;
-            }
+        add(&mut self.refusals, &other.refusals);
+        for sight in &other.sights {
+            add(self.counts(sight.name), &sight.counts);
         }
     }
 
@@ -69,6 +69,12 @@ impl Sights {
     pub fn missing(&self) -> Vec<&'static str> {
         let missed = self.sights.iter().filter(|sight| sight.counts.contains(&0));
         missed.map(|sight| sight.name).collect()
+    }
+}
+
+fn add(counts: &mut [u64], more: &[u64]) {
+    for (count, more) in counts.iter_mut().zip(more) {
+        *count += more;
     }
 }
 

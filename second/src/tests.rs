@@ -3,6 +3,7 @@
 use crate::framer::{Framed, Framer, LineEvent};
 use crate::listing::{output, Side};
 use crate::packet::*;
+use crate::streams::Kind;
 use crate::table::{allowed, beep, Table, ROWS};
 
 /// Bytes from spaced digits.
@@ -21,8 +22,12 @@ fn hub(input: &str) -> String {
     String::from_utf8(output(Side::Hub, input.as_bytes())).expect("plain lines")
 }
 
+fn desk_hub(input: &str) -> String {
+    String::from_utf8(output(Side::DeskHub, input.as_bytes())).expect("plain lines")
+}
+
 fn reader(input: &str) -> String {
-    String::from_utf8(output(Side::Reader, input.as_bytes())).expect("plain lines")
+    String::from_utf8(output(Side::DeskReader, input.as_bytes())).expect("plain lines")
 }
 
 /// The lines that one more piece of input adds.
@@ -490,27 +495,149 @@ fn wrong_characters_stop_the_program() {
     assert_eq!(reader("S\r\n1b38\n;T"), "C 06 F3 00 00 1B 38 FE B4\nC 06 F3 00 01 1B 38 FE B3\n");
 }
 
+// Desk's own.
+
+#[test]
+fn desk_tells_the_hubs_refusals() {
+    assert_eq!(desk_hub("06 F3 00 00 1B 38 FE B5 ."), format!("R 2\n{HUB_NAK_1}"));
+    let whole = "06 F3 00 00 1B 38 FE B4 . 06 F3 00 01 1B 38 FE B3 . 04 D0 00 00 FF 2C .";
+    assert_eq!(desk_hub(whole), hub(whole));
+    assert_eq!(desk_hub("03 ."), format!("R 1\n{HUB_NAK_1}"));
+    assert_eq!(desk_hub("06 F3 /"), format!("R 3\n{HUB_NAK_1}"));
+    for (number, opcode, source, status, data) in [
+        (4, DECODE_DATA, HOST, 0, &[0x1B][..]),
+        (5, DECODE_DATA, READER, 4, &[0x1B]),
+        (6, PARAM_SEND, READER, 0, &[0xFF]),
+        (7, DECODE_DATA, READER, 0, &[]),
+    ] {
+        assert_eq!(desk_hub(&sent(opcode, source, status, data)), format!("R {number}\n{HUB_NAK_2}"));
+    }
+    let first = sent(DECODE_DATA, READER, MORE, &[0x1B]);
+    let other = sent(DECODE_DATA, READER, 0, &[0x1C]);
+    let barred = format!("R 10\n{HUB_NAK_6}");
+    assert_eq!(desk_hub(&format!("{first} {other} {other} {first}")), format!("{HUB_ACK}{}", barred.repeat(3)));
+}
+
+#[test]
+fn an_event_in_a_small_room_is_not_taken() {
+    let taken = format!("M 1B 38\n{HUB_ACK}");
+    assert_eq!(desk_hub("06 F3 00 00 1B 38 FE K 00 06 ; B4 . / 03 K 00 07 ; B4"), "R 13\n".repeat(4) + &taken);
+    assert_eq!(desk_hub("06 F3 00 00 K 00 00 ; K FF FF ; 1B 38 FE B4"), taken);
+    // Deaf it stays, barred too.
+    assert_eq!(desk_hub("03 K 00 00 ; . K 00 07 ; 03"), format!("R 1\n{HUB_NAK_1}R 13\n"));
+    let barring = sent(DECODE_DATA, READER, MORE, &[0x1B]) + &sent(DECODE_DATA, READER, 0, &[0x1C]);
+    let lines = desk_hub(&format!("{barring} K 00 06 ; / K 01 00 ; 06 F3 00 00 1B 38 FE B4"));
+    assert_eq!(lines, format!("{HUB_ACK}R 10\n{HUB_NAK_6}R 13\nR 10\n{HUB_NAK_6}"));
+
+    assert_eq!(reader("K 00 18 ; 03 K 00 19 ; 03"), format!("R 13\nR 1\n{READER_NAK_1}"));
+    assert_eq!(reader("03 K 00 18 ; . K 19 00 ; 03"), format!("R 1\n{READER_NAK_1}R 13\n"));
+    assert_eq!(reader_after("04 E9 04 00 FF K 00 18 ;", "0F . /"), "R 13\n".repeat(3));
+    assert_eq!(reader_after("04 E9 04 00 FF K 00 18 ; 0F . / K 00 19 ;", "0F"), format!("{QUIET}{READER_ACK}"));
+    assert_eq!(reader_after(&format!("{OFF} K 00 00 ;"), "03 ."), "R 13\nR 13\n");
+}
+
+#[test]
+fn the_small_room_is_for_answers_alone() {
+    let copies = "C 06 F3 00 00 1B 38 FE B4\nC 06 F3 00 01 1B 38 FE B3\n";
+    assert_eq!(reader("K 00 00 ; S 1B 38 ; T"), copies);
+    assert_eq!(reader("S 1B 38 ; K 00 00 ; T 04"), format!("{copies}R 13\n"));
+    assert_eq!(reader_after("04 E9 K 00 18 ; P", "04"), "R 13\n");
+    assert_eq!(reader_after("04 E9 K 00 18 ; P 04 K 00 19 ;", "."), "");
+}
+
+#[test]
+fn present_values_are_shown() {
+    let defaults = "U 00 0A 00 14 06 04 01 00 01\n";
+    assert_eq!(reader("U"), defaults);
+    assert_eq!(reader("K 00 00 ; U 03"), format!("{defaults}R 13\n"));
+    let for_now = sent(PARAM_SEND, HOST, 0, &[0xFF, 0x89, 99, 0xEE, 0]);
+    let for_ever = sent(PARAM_SEND, HOST, PERMANENT, &[0xFF, 0x8A, 8]);
+    let set = for_ever + &for_now;
+    assert_eq!(reader_after(&set, "U"), "U 00 63 08 14 06 04 01 00 00\n");
+    assert_eq!(reader_after(&format!("{set} P"), "UU"), "U 00 0A 08 14 06 04 01 00 01\n".repeat(2));
+    // No event: nothing begun is cut, nothing out is ended.
+    assert_eq!(reader("04 E9 04 00 U FF 0F"), format!("{defaults}{QUIET}{READER_ACK}"));
+}
+
+#[test]
+fn a_room_has_two_pairs() {
+    for wrong in [
+        "K ;",
+        "K;",
+        "K 06 ;",
+        "K 00 06 00 ;",
+        "K 00 0 ;",
+        "K 00 0 6 ;",
+        "K 0",
+        "K 00 06 0",
+        "K 00\t06 ;",
+        "K 00 . 06 ;",
+        "K K",
+        "K S",
+        "k",
+        "K 00 06 ]",
+        "[",
+        "]",
+        "V",
+        "Q",
+        "H",
+        "W",
+        "L",
+        "I",
+        "Y",
+        "R",
+        "A",
+    ] {
+        assert_eq!(desk_hub(&format!("03 . {wrong}")), format!("R 1\n{HUB_NAK_1}E\n"), "{wrong:?}");
+        assert_eq!(reader(&format!("03 . {wrong}")), format!("R 1\n{READER_NAK_1}E\n"), "{wrong:?}");
+    }
+    for unended in ["K", "K 00", "K 00 06", "K 00 06 00", "K 00 06 00 00 "] {
+        assert_eq!(desk_hub(unended), "");
+        assert_eq!(reader(unended), "");
+    }
+    for (wrong, right) in [("U", "K\r\n0006\n;"), ("T", ""), ("P", ""), ("S 1B ;", "")] {
+        assert_eq!(desk_hub(wrong), "E\n");
+        assert_eq!(desk_hub(right), "");
+    }
+    assert_eq!(reader("u"), "E\n");
+    assert_eq!(hub("K 00 07 ;"), "E\n");
+}
+
+#[test]
+fn it_says_where_it_stopped() {
+    let place = |text: &str| crate::listing::run(Side::DeskHub, text.as_bytes(), Vec::new()).expect("bytes in memory");
+    assert_eq!(place("03 ."), None);
+    assert_eq!(place("03 . x 03"), Some(6));
+    assert_eq!(place("03 . 0"), Some(6));
+    assert_eq!(place("K 00 06"), None);
+}
+
 // The tools.
 
 #[test]
 fn the_program_streams() {
-    let stream = crate::streams::stream(Side::Reader, 3, 2_000).text;
-    let mut listing = crate::listing::Listing::new(Side::Reader);
+    let stream = crate::streams::stream(Kind::DeskReader, 3, 2_000).text;
+    let mut listing = crate::listing::Listing::new(Side::DeskReader);
     let mut lines = Vec::new();
     stream.chunks(1).for_each(|character| listing.feed(character, &mut lines));
     listing.finish(&mut lines);
-    assert_eq!(lines, output(Side::Reader, &stream));
+    assert_eq!(lines, output(Side::DeskReader, &stream));
     let mut written = Vec::new();
-    crate::listing::run(Side::Reader, &stream[..], &mut written).expect("no trouble with bytes in memory");
+    crate::listing::run(Side::DeskReader, &stream[..], &mut written).expect("no trouble with bytes in memory");
     assert_eq!(written, lines);
 }
 
 #[test]
 fn a_stream_follows_from_its_seed() {
-    for side in [Side::Hub, Side::Reader] {
-        let stream = crate::streams::stream(side, 7, 1_000);
-        assert_eq!(stream.text, crate::streams::stream(side, 7, 1_000).text);
-        assert_ne!(stream.text, crate::streams::stream(side, 8, 1_000).text);
+    for (side, kind) in [
+        (Side::Hub, Kind::Hub),
+        (Side::DeskHub, Kind::DeskHub),
+        (Side::DeskReader, Kind::Reader),
+        (Side::DeskReader, Kind::DeskReader),
+    ] {
+        let stream = crate::streams::stream(kind, 7, 1_000);
+        assert_eq!(stream.text, crate::streams::stream(kind, 7, 1_000).text);
+        assert_ne!(stream.text, crate::streams::stream(kind, 8, 1_000).text);
         assert!(stream.events >= 1_000);
         assert!(!output(side, &stream.text).is_empty());
     }
@@ -524,6 +651,43 @@ fn a_difference_is_shrunk() {
         text.contains("F3") && text.find("P").is_some_and(|at| text[at..].contains("38"))
     });
     assert_eq!(small, b"F3 P 38");
+    // A token with bytes goes as a whole, where half of it would be wrong.
+    let small = crate::shrink::shrink(b"05 K 00 19 ; S 1B 38 ; K 00 07 ; 06 P", &mut |text| {
+        output(Side::DeskReader, text).ends_with(b"R 13\n")
+    });
+    assert_eq!(small, b"K 00 07 ; 06");
+}
+
+#[test]
+fn every_character_is_tried_in_every_state() {
+    for (side, states) in [(Side::Hub, 2), (Side::DeskHub, 10), (Side::DeskReader, 14)] {
+        let every = crate::streams::every_text(side);
+        for character in 0..=255 {
+            assert!(every.iter().filter(|text| text.contains(&character)).count() >= states, "{character}");
+        }
+        // Some are right, most are wrong, and what every comparison tries is less.
+        let texts = crate::streams::texts(side);
+        let stopped = texts.iter().filter(|text| output(side, text).ends_with(b"E\n")).count();
+        assert!(texts.len() / 2 < stopped && stopped < texts.len() && texts.len() < every.len());
+    }
+}
+
+#[test]
+fn a_run_is_judged_by_its_end_too() {
+    use crate::program::Ran;
+    let ran = |output: &[u8], code: i32, said: &[u8]| Ran::ended(output.to_vec(), code, said.to_vec());
+    for side in [Side::DeskHub, Side::DeskReader] {
+        assert!(ran(b"R 1\n", 0, b"").as_due(side, b"R 1\n"));
+        assert!(ran(b"R 1\nE\n", 1, b"at 3").as_due(side, b"R 1\nE\n"));
+        assert!(!ran(b"R 1\n", 0, b"").as_due(side, b"R 3\n"));
+        assert!(!ran(b"R 1\n", 1, b"").as_due(side, b"R 1\n"));
+        assert!(!ran(b"E\n", 0, b"at 3").as_due(side, b"E\n"));
+        assert!(!ran(b"E\n", 1, b"").as_due(side, b"E\n"));
+        assert!(!ran(b"E\n", 101, b"at 3").as_due(side, b"E\n"));
+    }
+    assert!(ran(b"E\n", 0, b"").as_due(Side::Hub, b"E\n"));
+    assert!(ran(b"E\n", 1, b"").as_due(Side::Hub, b"E\n"));
+    assert!(!ran(b"E\n", 101, b"").as_due(Side::Hub, b"E\n"));
 }
 
 #[test]

@@ -3,10 +3,10 @@
 use crate::framer::LineEvent;
 use crate::hub::{Done, Hub, HubStep, LONGEST_MESSAGE};
 use crate::packet::{Packet, Refusal, LONGEST, MORE, PERMANENT};
-use crate::sights::{bit_alone, Sights, ENDINGS_SEEN};
-use crate::streams::HUB_ENDINGS;
+use crate::sights::{bit_alone, Name, Sights};
+use crate::watch_room::{FramerLook, RoomWatch, ROOM_NAMES};
 
-const NAMES: [(&str, usize); 33] = [
+const NAMES: [Name; 32] = [
     ("message handed out", 1),
     ("message of one packet handed out", 1),
     ("empty message handed out", 1),
@@ -39,8 +39,10 @@ const NAMES: [(&str, usize); 33] = [
     ("longest packet, 257 bytes", 1),
     ("ACK or NAK ignored inside a message", 1),
     ("status bit 2, 4, 5, 6 or 7 alone refused", 5),
-    (ENDINGS_SEEN, HUB_ENDINGS.len()),
 ];
+
+/// What only desk can reach.
+const DESK_NAMES: [Name; 2] = [("13 while barred", 1), ("13 inside a message", 1)];
 
 /// What can be seen of the hub before an event.
 #[derive(Clone, Copy)]
@@ -48,8 +50,7 @@ pub struct HubLook {
     barred: bool,
     /// Bytes gathered, where a message is open.
     open: Option<usize>,
-    begun: usize,
-    deaf: bool,
+    framer: FramerLook,
 }
 
 impl HubLook {
@@ -57,8 +58,7 @@ impl HubLook {
         HubLook {
             barred: hub.barred(),
             open: hub.gathered().map(|message| message.bytes.len()),
-            begun: hub.framer().begun(),
-            deaf: hub.framer().deaf(),
+            framer: FramerLook::at(hub.framer()),
         }
     }
 }
@@ -71,21 +71,32 @@ pub struct HubWatch {
     refused_since: bool,
     repeated: bool,
     joined: bool,
+    room: RoomWatch,
 }
 
 impl HubWatch {
-    pub fn new() -> HubWatch {
+    pub fn new(desk: bool) -> HubWatch {
+        let desks = ROOM_NAMES.iter().chain(&DESK_NAMES).filter(|_| desk);
         HubWatch {
-            sights: Sights::new(&NAMES),
+            sights: Sights::new(NAMES.iter().chain(desks)),
             last: None,
             forgotten: None,
             refused_since: false,
             repeated: false,
             joined: false,
+            room: RoomWatch::default(),
         }
     }
 
+    pub fn room_set(&mut self, room: usize) {
+        self.room.set(room, &mut self.sights);
+    }
+
     pub fn see(&mut self, before: HubLook, event: LineEvent, step: &HubStep, hub: &Hub) {
+        if step.done == Done::Refused(Refusal::Room) {
+            return self.no_room(before, event);
+        }
+        self.room.taken(before.framer, event, step.packet.is_some(), &mut self.sights);
         match event {
             LineEvent::Byte(_) => self.byte(before),
             LineEvent::Gap => self.sights.see_if(before.barred, "barred: kept over a character gap"),
@@ -101,16 +112,22 @@ impl HubWatch {
         }
     }
 
+    fn no_room(&mut self, before: HubLook, event: LineEvent) {
+        self.room.refused(before.framer, event, &mut self.sights);
+        self.sights.see_if(before.barred, "13 while barred");
+        self.sights.see_if(before.open.is_some(), "13 inside a message");
+    }
+
     fn byte(&mut self, before: HubLook) {
-        self.sights.see_if(before.deaf, "byte ignored while deaf");
+        self.sights.see_if(before.framer.deaf, "byte ignored while deaf");
         self.sights.see_if(self.joined, "packet joined to the one before");
     }
 
     fn message_gap(&mut self, before: HubLook) {
         self.sights.see_if(before.barred, "bar lifted by a message gap");
         self.sights.see_if(before.open.is_some(), "message gap drops gathered pieces");
-        self.sights.see_if(before.begun > 0, "message gap cuts a packet");
-        self.sights.see_if(before.deaf, "message gap while deaf");
+        self.sights.see_if(before.framer.begun > 0, "message gap cuts a packet");
+        self.sights.see_if(before.framer.deaf, "message gap while deaf");
         if self.last.is_some() {
             self.forgotten = self.last.take();
         }

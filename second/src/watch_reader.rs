@@ -3,13 +3,13 @@
 use crate::framer::LineEvent;
 use crate::hub::LONGEST_MESSAGE;
 use crate::packet::*;
-use crate::reader::{Reader, Step, Switches, ALL};
+use crate::reader::{Reader, Step, Switches, ALL, ANSWER_ROOM};
 use crate::sender::End;
-use crate::sights::{bit_alone, Sights, ENDINGS_SEEN};
-use crate::streams::READER_ENDINGS;
+use crate::sights::{bit_alone, Name, Sights};
 use crate::table::{place, Table, ACK_NAK, HIGHEST_BEEP, NO_BEEP, ROWS, TRIGGER};
+use crate::watch_room::{FramerLook, RoomWatch, ROOM_NAMES};
 
-const NAMES: [(&str, usize); 77] = [
+const NAMES: [Name; 76] = [
     ("command acted on, each opcode", 12),
     ("command acted on while the sender waits", 1),
     ("command acted on with 9Fh off, each opcode", 12),
@@ -86,27 +86,23 @@ const NAMES: [(&str, usize); 77] = [
     ("status bit 2, 4, 5, 6 or 7 alone refused", 5),
     ("bit 3 without meaning, command acted on", 1),
     ("data length refused, each opcode", 12),
-    (ENDINGS_SEEN, READER_ENDINGS.len()),
 ];
 
-/// The opcodes in the order of the members.
-const OPCODES: [u8; 12] = [
-    AIM_OFF,
-    AIM_ON,
-    PARAM_SEND,
-    PARAM_REQUEST,
-    PARAM_DEFAULTS,
-    START_SESSION,
-    STOP_SESSION,
-    BEEP,
-    LED_ON,
-    LED_OFF,
-    SCAN_ENABLE,
-    SCAN_DISABLE,
+/// What the streams with desk's own tokens are for.
+const DESK_NAMES: [Name; 9] = [
+    ("13 while a message is out", 1),
+    ("13 with 9Fh off", 1),
+    ("start in a room too small for answers", 1),
+    ("time-out that resends in a room too small for answers", 1),
+    ("power-up in a room too small for answers", 1),
+    ("values shown, unlike the permanent ones", 1),
+    ("values shown after a power-up brought others back", 1),
+    ("values shown inside a packet, while deaf, while a message is out", 3),
+    ("values shown in a room too small for answers", 1),
 ];
 
 fn opcode_place(opcode: u8) -> usize {
-    OPCODES.iter().position(|known| *known == opcode).expect("a known opcode")
+    COMMANDS.iter().position(|known| *known == opcode).expect("a known opcode")
 }
 
 /// What can be seen of the reader before an event.
@@ -117,8 +113,7 @@ pub struct ReaderLook {
     waits: bool,
     resends: usize,
     size: usize,
-    begun: usize,
-    deaf: bool,
+    framer: FramerLook,
 }
 
 impl ReaderLook {
@@ -129,8 +124,7 @@ impl ReaderLook {
             waits: reader.sender().waits(),
             resends: reader.sender().resends(),
             size: reader.sender().size().unwrap_or(0),
-            begun: reader.framer().begun(),
-            deaf: reader.framer().deaf(),
+            framer: FramerLook::at(reader.framer()),
         }
     }
 }
@@ -149,14 +143,37 @@ pub struct ReaderWatch {
     /// The last accepted packet before the power-up, until another is accepted.
     forgotten: Option<Vec<u8>>,
     joined: bool,
+    room: RoomWatch,
+    /// The answer room is too small.
+    small: bool,
+    /// A power-up has changed present values, and they were not shown since.
+    brought_back: bool,
 }
 
 impl ReaderWatch {
-    pub fn new() -> ReaderWatch {
-        ReaderWatch { sights: Sights::new(&NAMES), last: None, forgotten: None, joined: false }
+    pub fn new(desk: bool) -> ReaderWatch {
+        let desks = ROOM_NAMES.iter().chain(&DESK_NAMES).filter(|_| desk);
+        ReaderWatch {
+            sights: Sights::new(NAMES.iter().chain(desks)),
+            last: None,
+            forgotten: None,
+            joined: false,
+            room: RoomWatch::default(),
+            small: false,
+            brought_back: false,
+        }
+    }
+
+    pub fn room_set(&mut self, room: usize) {
+        self.small = room < ANSWER_ROOM;
+        self.room.set(room, &mut self.sights);
     }
 
     pub fn line(&mut self, before: ReaderLook, event: LineEvent, step: &Step, reader: &Reader) {
+        if step.refusal == Some(Refusal::Room) {
+            return self.no_room(before, event);
+        }
+        self.room.taken(before.framer, event, step.packet.is_some(), &mut self.sights);
         self.joins(before, event, step);
         if let Some(refusal) = step.refusal {
             self.refused(before, refusal, step);
@@ -173,11 +190,30 @@ impl ReaderWatch {
         }
     }
 
+    fn no_room(&mut self, before: ReaderLook, event: LineEvent) {
+        self.room.refused(before.framer, event, &mut self.sights);
+        self.sights.see_if(before.waits, "13 while a message is out");
+        self.sights.see_if(!before.table.handshaking(), "13 with 9Fh off");
+    }
+
+    pub fn shown(&mut self, now: ReaderLook) {
+        let changed = now.table.present != now.table.permanent;
+        self.sights.see_if(changed, "values shown, unlike the permanent ones");
+        let brought_back = std::mem::take(&mut self.brought_back);
+        self.sights.see_if(brought_back, "values shown after a power-up brought others back");
+        for (member, seen) in [now.framer.begun > 0, now.framer.deaf, now.waits].into_iter().enumerate() {
+            if seen {
+                self.sights.see_member("values shown inside a packet, while deaf, while a message is out", member);
+            }
+        }
+        self.sights.see_if(self.small, "values shown in a room too small for answers");
+    }
+
     fn joins(&mut self, before: ReaderLook, event: LineEvent, step: &Step) {
         match event {
             LineEvent::Byte(_) => self.sights.see_if(self.joined, "packet joined to the one before"),
             LineEvent::Gap => {}
-            LineEvent::MessageGap => self.sights.see_if(before.begun > 0, "message gap cuts a packet"),
+            LineEvent::MessageGap => self.sights.see_if(before.framer.begun > 0, "message gap cuts a packet"),
         }
         // Gaps come without a packet, so they part the next one from the one before.
         self.joined = step.packet.is_some();
@@ -216,7 +252,7 @@ impl ReaderWatch {
         }
         match (refusal, packet.opcode()) {
             (Refusal::Opcode, DECODE_DATA) => self.sights.see_if(more, "bit 1 with F3h refused as 6"),
-            (Refusal::Status, opcode) if packet.status() == MORE && !OPCODES.contains(&opcode) => {
+            (Refusal::Status, opcode) if packet.status() == MORE && !COMMANDS.contains(&opcode) => {
                 self.sights.see("bit 1 with an unknown opcode refused as 5")
             }
             (Refusal::DataLength, PARAM_SEND) if !packet.data().is_empty() => {
@@ -448,6 +484,8 @@ impl ReaderWatch {
             return self.sights.see_member("ACK, NAK or time-out with nothing out", 2);
         }
         self.sights.see_if(step.copy.is_some(), "time-out resends");
+        let small = step.copy.is_some() && self.small;
+        self.sights.see_if(small, "time-out that resends in a room too small for answers");
         self.sent(before, step, Some(0));
     }
 
@@ -455,6 +493,8 @@ impl ReaderWatch {
         if let Some(refusal) = step.refusal {
             self.sights.refusal(refusal);
         }
+        let small = step.copy.is_some() && self.small;
+        self.sights.see_if(small, "start in a room too small for answers");
         if before.waits {
             self.sights.see("start while one is out");
         } else if size > LONGEST_MESSAGE {
@@ -467,14 +507,16 @@ impl ReaderWatch {
 
     pub fn power_up(&mut self, before: ReaderLook) {
         self.sights.see_if(before.waits, "power-up with a message out");
-        if before.begun > 0 {
+        if before.framer.begun > 0 {
             self.sights.see_member("power-up inside a packet, while deaf", 0);
         }
-        if before.deaf {
+        if before.framer.deaf {
             self.sights.see_member("power-up inside a packet, while deaf", 1);
         }
         let changed = before.table.present != before.table.permanent;
         self.sights.see_if(changed, "power-up brings permanent values back");
+        self.brought_back |= changed;
+        self.sights.see_if(self.small, "power-up in a room too small for answers");
         let nine_f = place(ACK_NAK).expect("9Fh is one of the nine");
         self.sights.see_if(before.table.permanent[nine_f] == 0, "power-up keeps 9Fh off");
         if let Some(last) = self.last.take() {

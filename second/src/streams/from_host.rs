@@ -1,21 +1,15 @@
 //! What may come to a reader's end: commands, answers, and the reader's own starts, time-outs and power-ups.
 
 use super::damage::{contents, cut, damaged};
-use super::pen::Pen;
-use super::sweep::COMMANDS;
-use super::{Line, Stream};
+use super::{Hand, Line, Stream};
 use crate::dice::Dice;
-use crate::framer::LineEvent;
+use crate::framer::{Framer, LineEvent};
 use crate::hub::LONGEST_MESSAGE;
-use crate::listing::Side;
 use crate::packet::*;
-use crate::reader::{Reader, ALL};
-use crate::sights::ENDINGS_SEEN;
+use crate::reader::{Reader, ALL, ANSWER_ROOM};
 use crate::table::{ACK_NAK, NO_BEEP, ROWS, TRIGGER};
 use crate::watch_reader::{ReaderLook, ReaderWatch};
 
-/// How many packets are kept, to be sent again.
-const KEPT: usize = 8;
 /// Numbers beside the nine, and some of the sources' other ones.
 const UNSUPPORTED: [u8; 17] =
     [0x00, 0x01, 0x7F, 0x81, 0x88, 0x8B, 0x9A, 0x9D, 0xA0, 0xEC, 0xEF, 0xF0, 0xF1, 0xF4, 0xF8, 0xFD, 0xFF];
@@ -23,11 +17,9 @@ const PLAIN: [u8; 7] = [PARAM_DEFAULTS, START_SESSION, STOP_SESSION, SCAN_ENABLE
 
 pub struct FromHost {
     dice: Dice,
-    pen: Pen,
+    hand: Hand,
     reader: Reader,
     watch: ReaderWatch,
-    /// Packets sent not long ago.
-    kept: Vec<Vec<u8>>,
     /// How many answers of a hundred are ACKs, drawn anew for each message.
     kindness: usize,
 }
@@ -37,47 +29,62 @@ impl Line for FromHost {
         &mut self.dice
     }
 
-    fn event(&mut self, event: LineEvent) {
-        self.pen.line(event);
+    fn hand(&mut self) -> &mut Hand {
+        &mut self.hand
+    }
+
+    fn take(&mut self, event: LineEvent) {
+        self.hand.pen.line(event);
         let before = ReaderLook::at(&self.reader);
-        let step = self.reader.take(event);
+        let step = self.reader.take_in_room(event, self.hand.room);
         self.watch.line(before, event, &step, &self.reader);
     }
-}
 
-impl FromHost {
-    pub fn new(seed: u64) -> FromHost {
-        let mut dice = Dice::new(seed);
-        FromHost {
-            pen: Pen::new(dice.next()),
-            dice,
-            reader: Reader::new(),
-            watch: ReaderWatch::new(),
-            kept: Vec::new(),
-            kindness: 50,
+    fn room_set(&mut self) {
+        self.watch.room_set(self.hand.room);
+    }
+
+    fn framer(&self) -> &Framer {
+        self.reader.framer()
+    }
+
+    fn last_accepted(&self) -> Option<Vec<u8>> {
+        self.reader.last_accepted().map(<[u8]>::to_vec)
+    }
+
+    fn rare_state(&self) -> bool {
+        self.reader.sender().waits()
+    }
+
+    fn aside(&mut self) {
+        if self.hand.rooms.as_mut().is_some_and(|rooms| rooms.dice().chance(2)) {
+            self.show();
         }
     }
 
-    pub fn stream(mut self, events: u64, ending: bool) -> Stream {
-        while self.pen.events < events {
-            self.step();
-        }
-        if ending {
-            let member = self.pen.ending(Side::Reader);
-            self.watch.sights.see_member(ENDINGS_SEEN, member);
-        }
-        self.done()
+    fn fresh(&mut self) {
+        self.plain_command();
     }
 
-    pub fn done(self) -> Stream {
-        Stream { text: self.pen.text, events: self.pen.events, sights: self.watch.sights }
+    fn alter(&mut self, status: &mut u8, data: &mut Vec<u8>) {
+        match self.dice.weigh(&[70, 8, 6, 8, 4]) {
+            0 => {}
+            1 => *status &= !MARK,
+            2 => *status ^= PERMANENT,
+            3 => {
+                if let Some(last) = data.last_mut() {
+                    *last ^= 1;
+                }
+            }
+            _ => *status |= MORE,
+        }
+    }
+
+    fn done(self) -> Stream {
+        self.hand.done(self.watch.sights)
     }
 
     fn step(&mut self) {
-        // A deaf reader hears nothing, so most of what is sent then is lost work.
-        if self.reader.framer().deaf() && self.dice.chance(60) {
-            return self.event(LineEvent::Gap);
-        }
         if self.reader.sender().waits() {
             match self.dice.weigh(&[50, 12, 4, 34]) {
                 0 => self.answer_or_time_out(),
@@ -92,6 +99,15 @@ impl FromHost {
                 _ => self.step_on_commands(),
             }
         }
+    }
+}
+
+impl FromHost {
+    /// For desk, rooms and shows are drawn too.
+    pub fn new(seed: u64, desk: bool) -> FromHost {
+        let mut dice = Dice::new(seed);
+        let hand = Hand::new(dice.next(), desk.then_some(ANSWER_ROOM));
+        FromHost { dice, hand, reader: Reader::new(), watch: ReaderWatch::new(desk), kindness: 50 }
     }
 
     fn step_on_commands(&mut self) {
@@ -113,8 +129,13 @@ impl FromHost {
 
     // The reader's own events.
 
+    pub fn show(&mut self) {
+        self.hand.pen.aside(b'U');
+        self.watch.shown(ReaderLook::at(&self.reader));
+    }
+
     pub fn time_out(&mut self) {
-        self.pen.sign(b'T');
+        self.hand.pen.sign(b'T');
         let before = ReaderLook::at(&self.reader);
         let step = self.reader.time_out();
         self.watch.time_out(before, &step);
@@ -127,15 +148,15 @@ impl FromHost {
             let part = cut(&mut self.dice, &packet);
             self.send(&part);
         }
-        let last = self.reader.last_accepted().map(<[u8]>::to_vec);
-        self.pen.sign(b'P');
+        let last = self.last_accepted();
+        self.power_up_alone();
+        self.resend_forgotten(last);
+    }
+
+    pub fn power_up_alone(&mut self) {
+        self.hand.pen.sign(b'P');
         self.watch.power_up(ReaderLook::at(&self.reader));
         self.reader.power_up();
-        if let Some(body) = last.filter(|_| self.dice.chance(50)) {
-            let packet = lay_out(body[1], body[2], body[3] | MARK, &body[HEADER..]);
-            self.send(&packet);
-            self.after_packet();
-        }
     }
 
     fn message_size(&mut self) -> usize {
@@ -169,7 +190,7 @@ impl FromHost {
 
     /// Code type and bytes.
     pub fn start_message(&mut self, message: &[u8]) {
-        self.pen.start(message);
+        self.hand.pen.start(message);
         let before = ReaderLook::at(&self.reader);
         let step = self.reader.start(message[0], &message[1..]);
         self.watch.start(before, message.len() - 1, &step);
@@ -205,8 +226,7 @@ impl FromHost {
 
     fn answer(&mut self, opcode: u8, data: &[u8]) {
         let status = self.dice.pick(&[0, 0, 0, 0, 1]);
-        self.send(&lay_out(opcode, HOST, status, data));
-        self.after_packet();
+        self.packet(&lay_out(opcode, HOST, status, data));
     }
 
     /// An answer with one fault, or with several.
@@ -226,8 +246,7 @@ impl FromHost {
         if fault == 2 || fault == 3 {
             size = if is_ack { self.dice.between(1, 2) } else { self.dice.pick(&[0, 2, 3]) };
         }
-        self.send(&lay_out(opcode, source, status, &[1, 1, 6][..size]));
-        self.after_packet();
+        self.packet(&lay_out(opcode, source, status, &[1, 1, 6][..size]));
     }
 
     // Commands.
@@ -239,17 +258,6 @@ impl FromHost {
     fn command(&mut self, opcode: u8, data: &[u8]) {
         let status = self.status();
         self.whole(lay_out(opcode, HOST, status, data));
-    }
-
-    /// Sends a whole packet and keeps it for later.
-    fn whole(&mut self, packet: Vec<u8>) {
-        self.send(&packet);
-        if self.kept.len() == KEPT {
-            let at = self.dice.below(KEPT);
-            self.kept.swap_remove(at);
-        }
-        self.kept.push(packet);
-        self.after_packet();
     }
 
     fn plain_command(&mut self) {
@@ -386,8 +394,7 @@ impl FromHost {
         let status = self.dice.pick(&[0, 0, 0, 8]);
         self.whole(lay_out(opcode, HOST, status, data));
         for _ in 0..self.dice.below(3) {
-            self.send(&lay_out(opcode, HOST, status | MARK, data));
-            self.after_packet();
+            self.packet(&lay_out(opcode, HOST, status | MARK, data));
         }
     }
 
@@ -417,43 +424,6 @@ impl FromHost {
         self.command(PARAM_REQUEST, &data);
     }
 
-    // Resends.
-
-    /// The last accepted packet again: mostly marked and equal, at times with something else changed.
-    fn resend_last(&mut self) {
-        let Some(body) = self.reader.last_accepted() else {
-            return self.resend_kept();
-        };
-        let body = body.to_vec();
-        let mut data = body[HEADER..].to_vec();
-        let mut status = body[3] | MARK;
-        match self.dice.weigh(&[70, 8, 6, 8, 4]) {
-            0 => {}
-            1 => status &= !MARK,
-            2 => status ^= PERMANENT,
-            3 => {
-                if let Some(last) = data.last_mut() {
-                    *last ^= 1;
-                }
-            }
-            _ => status |= MORE,
-        }
-        self.send(&lay_out(body[1], body[2], status, &data));
-        self.after_packet();
-    }
-
-    /// Some earlier packet again.
-    fn resend_kept(&mut self) {
-        if self.kept.is_empty() {
-            return self.plain_command();
-        }
-        let at = self.dice.below(self.kept.len());
-        let old = self.kept[at].clone();
-        let mark = self.dice.pick(&[MARK, MARK, MARK, 0]);
-        self.send(&lay_out(old[1], old[2], old[3] | mark, &old[HEADER..old.len() - CHECKSUM]));
-        self.after_packet();
-    }
-
     // Everything else.
 
     fn some_command(&mut self) -> Vec<u8> {
@@ -472,14 +442,12 @@ impl FromHost {
             0 => {
                 let packet = self.some_command();
                 let packet = damaged(&mut self.dice, &packet);
-                self.send(&packet);
-                self.after_packet();
+                self.packet(&packet);
             }
             1 => {
                 let packet = self.some_command();
                 let packet = cut(&mut self.dice, &packet);
-                self.send(&packet);
-                self.after_packet();
+                self.packet(&packet);
             }
             2 => self.garbage(),
             _ => self.gaps(),
@@ -498,7 +466,6 @@ impl FromHost {
         let status = self.dice.pick(&[0, 0, 0, 1, 2, 2, 3, 4, 8, 0x10, 0x20, 0x40, 0x80, 255]);
         let size = self.dice.pick(&[0, 1, 2, 3, 7]);
         let data = contents(&mut self.dice, size);
-        self.send(&lay_out(opcode, source, status, &data));
-        self.after_packet();
+        self.packet(&lay_out(opcode, source, status, &data));
     }
 }

@@ -1,27 +1,20 @@
 //! What may come to a hub: decode data and everything that isn't.
 
 use super::damage::{contents, cut, damaged};
-use super::pen::Pen;
-use super::{Line, Stream};
+use super::{Hand, Line, Stream};
 use crate::dice::Dice;
-use crate::framer::LineEvent;
-use crate::hub::{Hub, LONGEST_MESSAGE};
-use crate::listing::Side;
+use crate::framer::{Framer, LineEvent};
+use crate::hub::{Hub, ANSWER_ROOM, LONGEST_MESSAGE};
 use crate::packet::*;
-use crate::sights::ENDINGS_SEEN;
 use crate::watch_hub::{HubLook, HubWatch};
 
 const TYPES: [u8; 6] = [0x1B, 0x1B, 0x1C, 0x01, 0x00, 0xFF];
-/// How many packets are kept, to be sent again.
-const KEPT: usize = 8;
 
 pub struct FromReader {
     dice: Dice,
-    pen: Pen,
+    hand: Hand,
     hub: Hub,
     watch: HubWatch,
-    /// Packets sent not long ago.
-    kept: Vec<Vec<u8>>,
 }
 
 impl Line for FromReader {
@@ -29,45 +22,73 @@ impl Line for FromReader {
         &mut self.dice
     }
 
-    fn event(&mut self, event: LineEvent) {
-        self.pen.line(event);
+    fn hand(&mut self) -> &mut Hand {
+        &mut self.hand
+    }
+
+    fn take(&mut self, event: LineEvent) {
+        self.hand.pen.line(event);
         let before = HubLook::at(&self.hub);
-        let step = self.hub.take(event);
+        let step = self.hub.take_in_room(event, self.hand.room);
         self.watch.see(before, event, &step, &self.hub);
     }
-}
 
-impl FromReader {
-    pub fn new(seed: u64) -> FromReader {
-        let mut dice = Dice::new(seed);
-        FromReader { pen: Pen::new(dice.next()), dice, hub: Hub::default(), watch: HubWatch::new(), kept: Vec::new() }
+    fn room_set(&mut self) {
+        self.watch.room_set(self.hand.room);
     }
 
-    pub fn stream(mut self, events: u64, ending: bool) -> Stream {
-        while self.pen.events < events {
-            self.step();
-        }
-        if ending {
-            let member = self.pen.ending(Side::Hub);
-            self.watch.sights.see_member(ENDINGS_SEEN, member);
-        }
-        self.done()
+    fn framer(&self) -> &Framer {
+        self.hub.framer()
     }
 
-    pub fn done(self) -> Stream {
-        Stream { text: self.pen.text, events: self.pen.events, sights: self.watch.sights }
+    fn last_accepted(&self) -> Option<Vec<u8>> {
+        self.hub.last_accepted().map(<[u8]>::to_vec)
+    }
+
+    fn rare_state(&self) -> bool {
+        self.hub.barred()
+    }
+
+    fn fresh(&mut self) {
+        self.piece();
+    }
+
+    fn alter(&mut self, status: &mut u8, data: &mut Vec<u8>) {
+        match self.dice.weigh(&[70, 6, 6, 6, 6, 3, 3]) {
+            0 => {}
+            1 => *status &= !MARK,
+            2 => *status ^= MORE,
+            3 => *status ^= PERMANENT,
+            4 => {
+                let at = self.dice.below(data.len());
+                data[at] ^= 1;
+            }
+            5 => {
+                data.pop();
+            }
+            _ => data.truncate(1),
+        }
+    }
+
+    fn done(self) -> Stream {
+        self.hand.done(self.watch.sights)
     }
 
     fn step(&mut self) {
-        // A deaf hub hears nothing, so most of what is sent then is lost work.
-        if self.hub.framer().deaf() && self.dice.chance(60) {
-            return self.event(LineEvent::Gap);
-        }
         if self.hub.barred() {
             self.step_while_barred();
         } else {
             self.step_while_open();
         }
+    }
+}
+
+impl FromReader {
+    /// For desk, rooms are drawn too.
+    pub fn new(seed: u64, desk: bool) -> FromReader {
+        let mut dice = Dice::new(seed);
+        let hand = Hand::new(dice.next(), desk.then_some(ANSWER_ROOM));
+        FromReader { dice, hand, hub: Hub::default(), watch: HubWatch::new(desk) }
     }
 
     fn step_while_open(&mut self) {
@@ -144,17 +165,6 @@ impl FromReader {
         self.whole(packet);
     }
 
-    /// Sends a whole packet and keeps it for later.
-    fn whole(&mut self, packet: Vec<u8>) {
-        self.send(&packet);
-        if self.kept.len() == KEPT {
-            let at = self.dice.below(KEPT);
-            self.kept.swap_remove(at);
-        }
-        self.kept.push(packet);
-        self.after_packet();
-    }
-
     fn other_type(&mut self) {
         if self.hub.gathered().is_none() {
             // Opens a message first, at times with an empty piece.
@@ -224,46 +234,6 @@ impl FromReader {
 
     // Resends.
 
-    /// The last accepted packet again: mostly marked and equal, at times with something else changed.
-    fn resend_last(&mut self) {
-        let Some(body) = self.hub.last_accepted() else {
-            return self.resend_kept();
-        };
-        let body = body.to_vec();
-        let mut data = body[HEADER..].to_vec();
-        let mut status = body[3] | MARK;
-        match self.dice.weigh(&[70, 6, 6, 6, 6, 3, 3]) {
-            0 => {}
-            1 => status &= !MARK,
-            2 => status ^= MORE,
-            3 => status ^= PERMANENT,
-            4 => {
-                let at = self.dice.below(data.len());
-                data[at] ^= 1;
-            }
-            5 => {
-                data.pop();
-            }
-            _ => data.truncate(1),
-        }
-        let packet = lay_out(body[1], body[2], status, &data);
-        self.send(&packet);
-        self.after_packet();
-    }
-
-    /// Some earlier packet again.
-    fn resend_kept(&mut self) {
-        if self.kept.is_empty() {
-            return self.piece();
-        }
-        let at = self.dice.below(self.kept.len());
-        let old = self.kept[at].clone();
-        let mark = self.dice.pick(&[MARK, MARK, MARK, 0]);
-        let packet = lay_out(old[1], old[2], old[3] | mark, &old[HEADER..old.len() - CHECKSUM]);
-        self.send(&packet);
-        self.after_packet();
-    }
-
     /// As a sender does it: a spoiled copy, then the marked one.
     fn spoiled_then_resent(&mut self) {
         let code_type = self.open_type();
@@ -280,13 +250,9 @@ impl FromReader {
 
     /// A message gap, then what was accepted before it, marked.
     fn gap_then_resend(&mut self) {
-        let last = self.hub.last_accepted().map(<[u8]>::to_vec);
+        let last = self.last_accepted();
         self.event(LineEvent::MessageGap);
-        if let Some(body) = last.filter(|_| self.dice.chance(50)) {
-            let packet = lay_out(body[1], body[2], body[3] | MARK, &body[HEADER..]);
-            self.send(&packet);
-            self.after_packet();
-        }
+        self.resend_forgotten(last);
     }
 
     // Everything else.
@@ -295,22 +261,19 @@ impl FromReader {
     fn empty_packet(&mut self) {
         let status = self.dice.pick(&[0, 1, 2]);
         let packet = lay_out(DECODE_DATA, READER, status, &[]);
-        self.send(&packet);
-        self.after_packet();
+        self.packet(&packet);
     }
 
     fn damaged(&mut self) {
         let packet = self.right_piece();
         let packet = damaged(&mut self.dice, &packet);
-        self.send(&packet);
-        self.after_packet();
+        self.packet(&packet);
     }
 
     fn cut(&mut self) {
         let packet = self.right_piece();
         let packet = cut(&mut self.dice, &packet);
-        self.send(&packet);
-        self.after_packet();
+        self.packet(&packet);
     }
 
     fn answer(&mut self) {
@@ -320,8 +283,7 @@ impl FromReader {
         let data = [1, 6, 0];
         let size = self.dice.below(4);
         let packet = lay_out(opcode, source, status, &data[..size]);
-        self.send(&packet);
-        self.after_packet();
+        self.packet(&packet);
     }
 
     /// A right checksum around any fields.
@@ -333,7 +295,6 @@ impl FromReader {
         let size = self.dice.pick(&[0, 1, 2, 3, 7]);
         let data = contents(&mut self.dice, size);
         let packet = lay_out(opcode, source, status, &data);
-        self.send(&packet);
-        self.after_packet();
+        self.packet(&packet);
     }
 }

@@ -1,8 +1,8 @@
 //! Writes a stream in the listings' notation, in changing spacing and case, and ends it rightly or wrongly.
 
+use super::endings::Endings;
 use crate::dice::Dice;
 use crate::framer::LineEvent;
-use crate::listing::Side;
 
 pub struct Pen {
     pub text: Vec<u8>,
@@ -34,6 +34,11 @@ impl Pen {
 
     pub fn sign(&mut self, sign: u8) {
         self.events += 1;
+        self.aside(sign);
+    }
+
+    /// A sign that is no event.
+    pub fn aside(&mut self, sign: u8) {
         self.text.push(sign);
         self.space();
     }
@@ -41,13 +46,20 @@ impl Pen {
     /// `S`, the code type and the bytes, `;`.
     pub fn start(&mut self, message: &[u8]) {
         self.events += 1;
-        self.text.push(b'S');
-        self.space();
-        for byte in message {
+        self.token(b'S', message);
+    }
+
+    /// `K`, the size, `;`. That is no event.
+    pub fn room(&mut self, size: usize) {
+        self.token(b'K', &[(size >> 8) as u8, size as u8]);
+    }
+
+    fn token(&mut self, letter: u8, bytes: &[u8]) {
+        self.aside(letter);
+        for byte in bytes {
             self.pair(*byte);
         }
-        self.text.push(b';');
-        self.space();
+        self.aside(b';');
     }
 
     fn pair(&mut self, byte: u8) {
@@ -77,79 +89,12 @@ impl Pen {
     }
 
     /// Ends the stream: as it is, or with something wrong and more after it that must not be acted on.
-    /// Gives the number of the ending.
-    pub fn ending(&mut self, side: Side) -> usize {
-        let endings: &[&[u8]] = match side {
-            Side::Hub => &HUB_ENDINGS,
-            Side::Reader => &READER_ENDINGS,
-        };
+    pub fn ending(&mut self, endings: Endings) {
         let number = self.dice.below(endings.len());
         self.text.extend_from_slice(endings[number]);
         if self.dice.chance(50) {
             // Not right after the ending: a digit there could make a pair of a lone one.
             self.text.extend_from_slice(b" 03 . 04 D0 04 00 FF 28 / 03 .\n");
         }
-        number
     }
 }
-
-/// Wrong characters, lone digits, and the reader's own signs.
-pub const HUB_ENDINGS: [&[u8]; 23] = [
-    b"",
-    b"\n",
-    b"\r\n",
-    b"\t",
-    b"x",
-    b"G",
-    b"g",
-    b"T",
-    b"P",
-    b"S 1B 38 ;",
-    b";",
-    b"0",
-    b"f",
-    b"A ",
-    b"0.",
-    b"F/",
-    b"1 2",
-    b"\0",
-    b"\xFF",
-    b"\xC3\xA9",
-    b",",
-    b":",
-    b"@`",
-];
-
-pub const READER_ENDINGS: [&[u8]; 31] = [
-    b"",
-    b"\n",
-    b"\r\n",
-    b"\t",
-    b"x",
-    b"G",
-    b"t",
-    b"p",
-    b"s",
-    b";",
-    b"0",
-    b"f",
-    b"A ",
-    b"0.",
-    b"FT",
-    b"1 2",
-    b"\0",
-    b"\xFF",
-    b"S",
-    b"S 1B 38",
-    b"S ;",
-    b"S;",
-    b"S 1B 38 . ;",
-    b"S 1B / ;",
-    b"S 1B T ;",
-    b"S P",
-    b"S S 1B ;",
-    b"S 1B 3;",
-    b"S 1B 3",
-    b"S 1B\t;",
-    b"3S 1B ;",
-];

@@ -8,22 +8,6 @@ use crate::framer::LineEvent;
 use crate::packet::*;
 use crate::table::{allowed, NO_BEEP};
 
-/// Every opcode that a reader knows.
-pub const COMMANDS: [u8; 12] = [
-    AIM_OFF,
-    AIM_ON,
-    PARAM_SEND,
-    PARAM_REQUEST,
-    PARAM_DEFAULTS,
-    START_SESSION,
-    STOP_SESSION,
-    BEEP,
-    LED_ON,
-    LED_OFF,
-    SCAN_ENABLE,
-    SCAN_DISABLE,
-];
-
 /// Data of this length that is right for the opcode if the length is.
 fn data_of(opcode: u8, size: usize) -> Vec<u8> {
     let mut data = vec![0x80; size];
@@ -152,4 +136,101 @@ fn reader_answers(stream: &mut FromHost) {
             stream.event(LineEvent::Gap);
         }
     }
+}
+
+// Desk's own.
+
+/// The rooms that are tried in every state; each of the others once.
+fn rooms_to_try() -> impl Iterator<Item = usize> {
+    (0..=30).chain([255, 256, 257, 0x0600, 0x0700, 0x1800, 0x1900, 0xFFFF])
+}
+
+/// Every room there can be, each with a byte that is answered and a gap.
+fn every_room<L: Line>(stream: &mut L) {
+    for room in 0..=65_535 {
+        stream.set_room(room);
+        stream.event(LineEvent::Byte(3));
+        stream.event(LineEvent::Gap);
+    }
+}
+
+/// Rooms around the need in every state, with each kind of event. What comes after it in a room of full size is the
+/// event again, or not.
+fn rooms_in_states<L: Line>(stream: &mut L, states: &[Vec<u8>], bytes: &[u8], after: &[u8]) {
+    for (room, state) in rooms_to_try().flat_map(|room| states.iter().map(move |state| (room, state))) {
+        let bytes = bytes.iter().map(|byte| LineEvent::Byte(*byte));
+        let events = bytes.chain([LineEvent::Gap, LineEvent::MessageGap]);
+        for (event, again) in events.flat_map(|event| [(event, true), (event, false)]) {
+            stream.send(state);
+            stream.set_room(room);
+            stream.event(event);
+            stream.set_room(LONGEST);
+            if again {
+                stream.event(event);
+            }
+            stream.send(after);
+            stream.event(LineEvent::MessageGap);
+        }
+    }
+}
+
+/// A hub with nothing begun, inside a packet, one byte before its end, deaf, inside a message, barred.
+pub fn desk_hub(stream: &mut FromReader) {
+    every_room(stream);
+    let piece = lay_out(DECODE_DATA, READER, 0, &[0x1B, 0x38]);
+    let first = lay_out(DECODE_DATA, READER, MORE, &[0x1B, 0x37]);
+    let other = lay_out(DECODE_DATA, READER, 0, &[0x1C]);
+    let almost = &piece[..piece.len() - 1];
+    let states = [
+        vec![],
+        piece[..1].to_vec(),
+        almost.to_vec(),
+        vec![3],
+        first.clone(),
+        [&first[..], almost].concat(),
+        [&first[..], &other].concat(),
+        [&first[..], &other, almost].concat(),
+    ];
+    rooms_in_states(stream, &states, &[3, 4, piece[piece.len() - 1]], &piece);
+}
+
+/// A reader with nothing begun, inside a packet, one byte before the end of several, deaf; with a message out; and with
+/// 9Fh off.
+pub fn desk_reader(stream: &mut FromHost) {
+    every_room(stream);
+    let ask = lay_out(PARAM_REQUEST, HOST, 0, &[0xFE]);
+    let set = lay_out(PARAM_SEND, HOST, 0, &[0x01, 0x8A, 2, 0xED, 7]);
+    let ack = lay_out(CMD_ACK, HOST, 0, &[]);
+    let almost = |packet: &[u8]| packet[..packet.len() - 1].to_vec();
+    let states = [vec![], ask[..1].to_vec(), almost(&ask), almost(&set), almost(&ack), vec![3]];
+    let [ask_end, set_end, ack_end] = [&ask, &set, &ack].map(|packet| packet[packet.len() - 1]);
+    let bytes = [3, 4, ask_end, set_end, ack_end];
+    rooms_in_states(stream, &states, &bytes, &ask);
+    rooms_to_try().for_each(|room| room_with_message_out(stream, room, &set));
+    stream.send(&lay_out(PARAM_SEND, HOST, PERMANENT, &[NO_BEEP, 0x9F, 0]));
+    rooms_in_states(stream, &states, &bytes, &ask);
+}
+
+/// Packets whose last byte comes in that room first, with what does not need it: a time-out, a start, the values shown;
+/// and a power-up at the end.
+fn room_with_message_out(stream: &mut FromHost, room: usize, set: &[u8]) {
+    stream.start_message(&[0x1B, 0x38]);
+    for packet in [lay_out(CMD_NAK, HOST, 0, &[1]), set.to_vec(), lay_out(CMD_ACK, HOST, 0, &[])] {
+        let (last, front) = packet.split_last().expect("a packet");
+        stream.send(front);
+        stream.set_room(room);
+        stream.event(LineEvent::Byte(*last));
+        stream.time_out();
+        stream.start_message(&[0x1B, 0x39]);
+        stream.show();
+        stream.set_room(LONGEST);
+        stream.event(LineEvent::Byte(*last));
+        stream.event(LineEvent::Gap);
+    }
+    stream.set_room(room);
+    stream.power_up_alone();
+    stream.show();
+    stream.event(LineEvent::Byte(3));
+    stream.set_room(LONGEST);
+    stream.event(LineEvent::Gap);
 }

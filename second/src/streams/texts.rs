@@ -1,0 +1,93 @@
+//! Short texts for the notation: characters in each of its states, and tokens that are wrong as a whole.
+
+use super::endings::{Endings, DESK_HUB_ENDINGS, DESK_READER_ENDINGS, HUB_ENDINGS, READER_ENDINGS};
+use crate::listing::{Listing, Side};
+
+/// Lines are due before the end, and a program that stops too early doesn't write them.
+const LEAD: &[u8] = b"03 . ";
+const AFTER: &[u8] = b" 03 . 04 D0 04 00 FF 28 / 03 .\n";
+
+/// A front after which the notation is in one state, and an end that is right in that state.
+type State = (&'static [u8], &'static [u8]);
+
+/// Between tokens, and after a lone digit.
+const BASE: [State; 2] = [(b"", b" 03 ."), (b"0", b" 03 .")];
+/// After a `K` with none to two pairs, and after a lone digit there.
+const ROOM: [State; 4] =
+    [(b"K", b" 00 06 ; 03 ."), (b"K 00", b" 06 ; 03 ."), (b"K 00 0", b" ; 03 ."), (b"K 00 06", b" ; 03 .")];
+/// With other numbers of pairs.
+const MORE_ROOM: [State; 4] =
+    [(b"K 0", b" 06 ; 03 ."), (b"K 00 06 0", b" ; 03 ."), (b"K 00 06 00", b" ; 03 ."), (b"K 00 06 00 0", b" ; 03 .")];
+/// After an `S` with no pair and with one, and after a lone digit there.
+const START: [State; 3] = [(b"S", b" 1B 38 ; T"), (b"S 1B", b" 38 ; T"), (b"S 1B 3", b" 38 ; T")];
+const MORE_START: [State; 1] = [(b"S 1", b" 38 ; T")];
+
+/// Characters that a program may take for others: ones that are not printed, the neighbours of the digits, signs and
+/// letters of other states and requests, small letters, and with the highest bit set.
+const NOTABLE: &[u8] = b"\0\t\n\x0C\r ./0:;@FGKLPSTUW[`gkx\x7F\x80\xA0\xAE\xFF";
+
+/// After a lone digit nothing but another is right.
+const NOTABLE_AFTER_DIGIT: &[u8] = b"\t\n .;GKTfg";
+
+/// The texts of every comparison: few enough for programs that take long to start.
+pub fn texts(side: Side) -> Vec<Vec<u8>> {
+    let (states, endings): (&[&[State]], [Endings; 2]) = match side {
+        Side::Hub => (&[&BASE], [&HUB_ENDINGS, &DESK_HUB_ENDINGS]),
+        Side::DeskHub => (&[&BASE, &ROOM], [&HUB_ENDINGS, &DESK_HUB_ENDINGS]),
+        Side::DeskReader => (&[&BASE, &ROOM, &START], [&READER_ENDINGS, &DESK_READER_ENDINGS]),
+    };
+    let mut texts = vec![Vec::new()];
+    for state in states.concat() {
+        let notable = if after_digit(state) { NOTABLE_AFTER_DIGIT } else { NOTABLE };
+        characters(side, state, notable, &mut texts);
+    }
+    endings.concat().iter().for_each(|ending| try_out(side, ending, AFTER, &mut texts));
+    if side != Side::Hub {
+        texts.extend(long_tokens());
+    }
+    texts
+}
+
+/// Every character in every state.
+pub fn every_text(side: Side) -> Vec<Vec<u8>> {
+    let states: &[&[State]] = match side {
+        Side::Hub => &[&BASE],
+        Side::DeskHub => &[&BASE, &ROOM, &MORE_ROOM],
+        Side::DeskReader => &[&BASE, &ROOM, &MORE_ROOM, &START, &MORE_START],
+    };
+    let mut texts = Vec::new();
+    let every: Vec<u8> = (0..=255).collect();
+    states.concat().iter().for_each(|state| characters(side, *state, &every, &mut texts));
+    texts
+}
+
+fn after_digit((front, _): State) -> bool {
+    let last = front.rsplit(|character| *character == b' ').next();
+    last.is_some_and(|last| last.len() == 1 && last[0].is_ascii_hexdigit())
+}
+
+fn characters(side: Side, (front, end): State, characters: &[u8], texts: &mut Vec<Vec<u8>>) {
+    characters.iter().for_each(|character| try_out(side, &[front, &[*character]].concat(), end, texts));
+}
+
+/// With more after it; and without, where the program has not stopped before its end.
+fn try_out(side: Side, text: &[u8], after: &[u8], texts: &mut Vec<Vec<u8>>) {
+    let text = [LEAD, text].concat();
+    let mut listing = Listing::new(side);
+    listing.feed(&text, &mut Vec::new());
+    texts.push([&text[..], after].concat());
+    if listing.stopped().is_none() {
+        texts.push(text);
+    }
+}
+
+/// Far longer than any that is right.
+fn long_tokens() -> Vec<Vec<u8>> {
+    let mut texts = Vec::new();
+    for (letter, pairs) in [(b'K', 4_097), (b'K', 65_537), (b'S', 4_099), (b'S', 65_537), (b'S', 200_000)] {
+        let token = [&[letter][..], &b" 00".repeat(pairs)].concat();
+        texts.push([LEAD, &token].concat());
+        texts.push([LEAD, &token, b" ;", AFTER].concat());
+    }
+    texts
+}
