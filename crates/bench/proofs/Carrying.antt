@@ -13,15 +13,16 @@ use Rattle.words.specs.Lists.{Bytes, sameBytes}
 use Rattle.words.proofs.Lists.{bytes-cons, bytes-take, bytes-drop, both-false, same-refl}
 use Rattle.packet.specs.Opcodes.{host, reader, decodeData}
 use Rattle.packet.specs.Packet.{bodyOf, seal, replyBody, unmarked, marked, resentEqual}
+use Rattle.packet.specs.Sizes.{messageSize}
 use Rattle.packet.specs.declared.Reply.the-variants.{Ack}
 use Rattle.packet.proofs.Theorems.{Body, body-of}
 use Rattle.packet.proofs.Marks.{unmarked-of, marked-of}
-use Rattle.hub.specs.Joiner.{Gathered, none, some, Joiner, Output, added, repeated, handed, otherType, bytesOf}
-use Rattle.hub.specs.Hub.{packetStep, answerBytes}
+use Rattle.hub.specs.Joiner.{Gathered, none, some, Joiner, Output, added, repeated, handed, acknowledged, otherType, bytesOf}
+use Rattle.hub.specs.Hub.{packetStep}
 use Rattle.hub.proofs.Theorems.{repeat-acknowledged, piece-decodes}
 use Rattle.sender.specs.Pieces.{bodiesOf, packetsOf}
 use Rattle.sender.proofs.Cutting.{Cut, last, more, pieces-are-cut, cut-some, bodies-more}
-use Rattle.bench.specs.Bench.{Message, handing}
+use Rattle.bench.specs.Bench.{Message, handing, hubAnswers}
 use Rattle.bench.proofs.Whole.{pieceBody, Takes, no-repeat, piece-added, piece-handed, takes-less, takes-rest, piece-first}
 
 -- ---- the relations
@@ -41,7 +42,7 @@ New l p = sameBytes l p ≡ false
 
 -- Any copy of this packet, where it is new, is told as this and leaves this gathered.
 abbrev pub Moves : Gathered → List ℕ → Output → Gathered → Type 0
-Moves g p o g′ = (l c : List ℕ) → Copy p c → New l p → packetStep (free l g) c ≡ record { next = free p g′; told = o ∷ [] }
+Moves g p o g′ = (l c : List ℕ) → Copy p c → New l p → packetStep (free l g) c ≡ record { next = free p g′; told = acknowledged o }
 
 -- A packet that can be sent: both its copies are packets, the marks tell them apart, and where it is the last accepted one the other copy
 -- is only acknowledged.
@@ -49,7 +50,7 @@ pub record Sendable (p : List ℕ) : Type 0 where
   pub body : Body p
   pub even : getD p 3 0 % 2 ≡ 0
   pub odd : getD (marked p) 3 0 % 2 ≡ 1
-  pub repeats : (g : Gathered) → packetStep (free p g) (marked p) ≡ record { next = free p g; told = repeated ∷ [] }
+  pub repeats : (g : Gathered) → packetStep (free p g) (marked p) ≡ record { next = free p g; told = acknowledged repeated }
 
 -- These packets still carry the hub from what is gathered to the whole message.
 pub data Carries (code : ℕ) (whole : List ℕ) : Gathered → List (List ℕ) → Type 0 where
@@ -84,7 +85,7 @@ module _ (t code : ℕ) (p : List ℕ) (even : t % 2 ≡ 0) where
 
   module _ (low : t < 4) where
     repeats-piece : (g : Gathered) →
-        packetStep (free (pieceBody t code p) g) (marked (pieceBody t code p)) ≡ record { next = free (pieceBody t code p) g; told = repeated ∷ [] }
+        packetStep (free (pieceBody t code p) g) (marked (pieceBody t code p)) ≡ record { next = free (pieceBody t code p) g; told = acknowledged repeated }
     unfolding bodyOf resentEqual
     repeats-piece g =
         let b = pieceBody t code p in
@@ -141,7 +142,7 @@ pieces-carry code g c bytes (more {m} {ps} h k) room =
     (pieces-carry code (some code (bytesOf g ++ p)) c (bytes-drop 250 bytes) k left))
 
 -- The packets of any message carry a hub that has gathered nothing to that message.
-pub packets-carry : (code : ℕ) (m : List ℕ) → code < 256 → Bytes m → length m ≤ 4096 → Carries code m none (packetsOf code m)
+pub packets-carry : (code : ℕ) (m : List ℕ) → code < 256 → Bytes m → length m ≤ messageSize → Carries code m none (packetsOf code m)
 unfolding packetsOf otherType bytesOf
 packets-carry code m c bytes few = pieces-carry code none c bytes (pieces-are-cut m) (λ l. record { free = refl; same = refl; fits = omega arith })
 
@@ -154,17 +155,17 @@ pub data Onward (code : ℕ) (whole : List ℕ) : Gathered → List (List ℕ) �
 
 pub record Next (code : ℕ) (whole : List ℕ) (g : Gathered) (p : List ℕ) (ps : List (List ℕ)) : Type 0 where
   pub told : Output
-  pub acked : answerBytes told ≡ seal (replyBody host Ack)
+  pub acked : hubAnswers (acknowledged told) ≡ seal (replyBody host Ack) ∷ []
   pub gathered : Gathered
   pub moves : Moves g p told gathered
-  pub onward : (xs : List Message) → Onward code whole gathered ps xs (handing (told ∷ []) xs)
+  pub onward : (xs : List Message) → Onward code whole gathered ps xs (handing (acknowledged told) xs)
 
 pub first-sendable : {code : ℕ} {whole : List ℕ} {g : Gathered} {p : List ℕ} {ps : List (List ℕ)} → Carries code whole g (p ∷ ps) → Sendable p
 first-sendable (ends s m) = s
 first-sendable (goes s m k) = s
 
 pub next : {code : ℕ} {whole : List ℕ} {g : Gathered} {p : List ℕ} {ps : List (List ℕ)} → Carries code whole g (p ∷ ps) → Next code whole g p ps
-unfolding answerBytes handing
+unfolding hubAnswers handing
 next {code} {whole} (ends s m) = record { told = handed code whole; acked = refl; gathered = none; moves = m; onward = λ xs. came-out }
 next (goes {g′ = g′} s m (ends s′ m′)) = record { told = added; acked = refl; gathered = g′; moves = m; onward = λ xs. goes-on (ends s′ m′) }
 next (goes {g′ = g′} s m (goes s′ m′ k)) = record { told = added; acked = refl; gathered = g′; moves = m; onward = λ xs. goes-on (goes s′ m′ k) }

@@ -1,4 +1,4 @@
--- The ten cases of document 01 hold: eight by computation, the pieces by the law of their sizes. Assumes nothing.
+-- The ten cases of §17 hold: eight by computation, the pieces by the law of their sizes. Assumes nothing.
 use mathlib.Core.Path.{refl}
 use native.Mathlib.Omega.{arith}
 use lib.ListN.{length}
@@ -25,4 +25,5 @@ ten-cases =
       over-brim = λ m e. pieces-sizes m 1 1 (omega arith) (omega arith) (omega arith);
       longest = λ m e. pieces-sizes m 16 96 (omega arith) (omega arith) (omega arith);
       too-long = λ s code m e. start-refused s code m (simp (lt-ltb 4096 (length m) (omega arith)));
+      too-long-number = refl;
     }

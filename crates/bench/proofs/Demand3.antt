@@ -5,6 +5,7 @@ use mathlib.Core.Path.{_≡_, refl, ap}
 use mathlib.Core.Bool.{Bool, true, false}
 use mathlib.Core.List.{List, [], _∷_}
 use native.Mathlib.Omega.{arith}
+use lib.ListN.{length}
 use Rattle.words.specs.Lists.{Each, none, one}
 use Rattle.words.proofs.Lists.{never}
 use Rattle.framer.specs.Framer.{Line}
@@ -14,24 +15,24 @@ use Rattle.hub.specs.Hub.{HubState, cleared, hubStep}
 use Rattle.sender.specs.Sender.{SenderState, some}
 use Rattle.reader.specs.Reader.{ReaderState}
 use Rattle.bench.specs.Bench.{delivered, failed, out, Message, Sheet, Bench, Move, benchStep, played, FairMove, fair-start, fair-try, bench}
-use Rattle.bench.specs.Delivery.{Ready, onLine, apart, nothing, inOrder, Delivers}
+use Rattle.bench.specs.Delivery.{Ready, onLine, apart, nothing, Thrice, waitingAt, from-latest, inOrder, Delivers}
 use Rattle.bench.proofs.Carrying.{free}
 use Rattle.bench.proofs.Growing.{apart-before}
 use Rattle.bench.proofs.Rounds.{benchOf}
-use Rattle.bench.proofs.Standing.{lastOn, Past, Rested, gap-due, ready, present, thrice-all, not-ended, Stands, at-rest, at-work, Standing, standing}
+use Rattle.bench.proofs.Standing.{lastOn, Past, Rested, gap-due, ready, packetOf, present, at-most-thrice, not-ended, Stands, at-rest, at-work, Standing, standing}
 use Rattle.bench.proofs.Starting.{start-stands}
 use Rattle.bench.proofs.Trying.{try-stands}
 
 -- ---- a bench that stands delivers
 
 stands-delivers : {j : Joiner} {s : SenderState} {sheet : Sheet} {ms : List Message} (r : ReaderState) → Stands j s sheet ms → Delivers (benchOf r j s sheet ms)
-unfolding inOrder
+unfolding inOrder waitingAt
 stands-delivers r (at-rest q f past k) = record { hands-out = past .hands-out; honest = past .honest; sends = past .sends; nothing-else = refl }
 stands-delivers r (at-work {code} {bytes} {p} {ps} {ts} {older} {g = g} w h has) =
-    let few = w .few in
+    let thrice : Thrice 1 (packetOf p (length ts) ts) = at-most-thrice ts (w .few) (omega arith) in
     record {
-      hands-out = not-ended (present code bytes g out p ts older) (λ e. never (cc)) refl h has;
-      honest = one (record { thrice = thrice-all ts (omega arith) (w .thrice); lost-out = λ (e : out ≡ failed). never (cc) }) (w .honest);
+      hands-out = not-ended (present code bytes g out p (length ts) ts older) (λ e. never (cc)) refl h has;
+      honest = one (record { thrice = from-latest thrice (w .thrice); lost-out = λ (e : out ≡ failed). never (cc) }) (w .honest);
       sends = one (record { rest = ps; are = w .order; all-of = λ (e : out ≡ delivered). never (cc) }) (w .sends);
       nothing-else = refl;
     }

@@ -9,14 +9,14 @@ use lib.ListN.{getD}
 use Rattle.words.specs.Lists.{pick, sameBytes}
 use Rattle.words.specs.Machine.{Done}
 use Rattle.words.proofs.Lists.{both-right}
-use Rattle.packet.specs.Packet.{resendBit}
+use Rattle.packet.specs.Packet.{seal, resendBit}
 use Rattle.hub.specs.Joiner as joiner
 use Rattle.hub.specs.Hub.{HubState}
 use Rattle.sender.specs.Sender.{Sent, copy, delivered, failed, refused}
 use Rattle.reader.specs.Reader.{ReaderState, Output, startMessage}
 use Rattle.reader.specs.Promises.{sentOf}
 use Rattle.bench.specs.Bench as bench
-use Rattle.bench.specs.Bench.{Try, Tried, Begun, latest, withTry, trying, ending, sending, Sheet, Bench, noted, noting, opened, begins, begin, due, gapFirst, hubHears, readerHears, tried, trial, Move, start, attempt, benchStep, played}
+use Rattle.bench.specs.Bench.{Try, Tried, Begun, latest, withCopy, withTry, withPackets, trying, ending, sending, resending, Sheet, Bench, noted, noting, opened, begins, begin, due, gapFirst, hubHears, readerHears, tried, trial, Move, start, attempt, benchStep, played}
 use Rattle.bench.specs.Delivery.{OnLine, sent, gap, gapOf, onLine, apart}
 
 -- One line is another with something before it.
@@ -32,17 +32,22 @@ then {a} g h = record { new = h .new ++ g .new; is = h .is ∙ (ap (λ (l : List
 
 -- ---- the log
 
-tried-line : (t : Try) (ps : List Tried) → map (λ (p : Tried). sent (p .body)) (latest (withTry t) ps) ≡ map (λ (p : Tried). sent (p .body)) ps
-unfolding latest
-tried-line t [] = refl
-tried-line t (p ∷ ps) = refl
+abbrev bodies : List Tried → List OnLine
+bodies ps = map (λ (p : Tried). sent (p .body)) ps
 
--- A try and an ending leave the line as it is.
-trying-line : (t : Try) (log : List Begun) → onLine (latest (trying t) log) ≡ onLine log
-unfolding latest onLine
-trying-line t [] = refl
-trying-line t (m ∷ ms) = ap (λ (l : List OnLine). l ++ (gapOf (m .gap) ++ onLine ms)) (tried-line t (m .packets))
+-- What leaves a packet's body as it is leaves the line as it is: one more copy, and a try.
+module _ (f : Tried → Tried) (same-body : (p : Tried) → f p .body ≡ p .body) where
+  same-bodies : (ps : List Tried) → bodies (latest f ps) ≡ bodies ps
+  unfolding latest
+  same-bodies [] = refl
+  same-bodies (p ∷ ps) = ap (λ (b : List ℕ). sent b ∷ bodies ps) (same-body p)
 
+  same-line : (log : List Begun) → onLine (latest (λ (m : Begun). withPackets (latest f (m .packets)) m) log) ≡ onLine log
+  unfolding latest onLine
+  same-line [] = refl
+  same-line (m ∷ ms) = ap (λ (l : List OnLine). l ++ (gapOf (m .gap) ++ onLine ms)) (same-bodies (m .packets))
+
+-- So does an ending.
 ending-line : (x : bench.Ending) (log : List Begun) → onLine (latest (ending x) log) ≡ onLine log
 unfolding latest onLine
 ending-line x [] = refl
@@ -54,9 +59,9 @@ unfolding latest onLine
 sending-line body [] = same refl
 sending-line body (m ∷ ms) = record { new = sent body ∷ []; is = refl }
 
-copy-line : (d : Bool) (body : List ℕ) (log : List Begun) → Grown (onLine log) (onLine (pick d (latest (sending body) log) log))
+copy-line : (d : Bool) (body : List ℕ) (log : List Begun) → Grown (onLine log) (onLine (latest (pick d (sending body) (resending body)) log))
 copy-line true body log = sending-line body log
-copy-line false body log = same refl
+copy-line false body log = same (same-line (withCopy (seal body)) (λ p. refl) log)
 
 noted-line : (s : Sheet) (x : Sent) → Grown (onLine (s .log)) (onLine (noted s x .log))
 unfolding noted
@@ -86,7 +91,7 @@ tried-grows : (b : Bench) (t : Try) (h : Done HubState joiner.Output) (r : Done 
     Grown (onLine (b .sheet .log)) (onLine (tried b t h r .sheet .log))
 unfolding tried
 tried-grows b t h r =
-    then (same (trying-line t (b .sheet .log))) (noting-line (record { copy = b .sheet .copy; log = latest (trying t) (b .sheet .log) }) (sentOf (r .told)))
+    then (same (same-line (withTry t) (λ p. refl) (b .sheet .log))) (noting-line (record { copy = b .sheet .copy; log = latest (trying t) (b .sheet .log) }) (sentOf (r .told)))
 
 trial-line : (c : List ℕ) (b : Bench) (t : Try) → Grown (onLine (b .sheet .log)) (onLine (trial c b t .sheet .log))
 unfolding trial

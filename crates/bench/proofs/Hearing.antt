@@ -6,12 +6,12 @@ use mathlib.Core.Bool.{Bool, true, false}
 use mathlib.Core.List.{List, [], _∷_, map, append-nil}
 use native.Mathlib.Omega.{arith}
 use lib.Dec.{ltb}
-use Rattle.words.specs.Machine.{Done, after, through}
+use Rattle.words.specs.Machine.{Done, after, through, given}
 use Rattle.words.proofs.Lists.{bytes-nil, bytes-cons, never}
 use Rattle.words.proofs.Machine.{through-one}
 use Rattle.packet.specs.Opcodes.{host, cmdAck, cmdNak}
 use Rattle.packet.specs.Packet.{bodyOf, seal, dataIn, replyData, replyOpcode, replyBody, isAnswer}
-use Rattle.packet.specs.Refusals.{causeOf}
+use Rattle.packet.specs.Refusals.{causeOf, nakBytes}
 use Rattle.packet.specs.declared.Refusal.{Refusal}
 use Rattle.packet.specs.declared.Reply.{Reply}
 use Rattle.packet.specs.declared.Reply.the-variants as reply
@@ -25,7 +25,7 @@ use Rattle.hub.specs.Hub.{HubState, hubStep}
 use Rattle.hub.specs.Hub as hub
 use Rattle.hub.proofs.Theorems.{idle}
 use Rattle.hub.proofs.Calm.{Calm, ends, gap, calm-append, calm-bytes, calm-run}
-use Rattle.sender.specs.Sender.{SenderState, some, Sent, fails, resends, answered, senderStep, heedOf}
+use Rattle.sender.specs.Sender.{SenderState, some, Sent, fails, resends, outStep, senderStep, heedOf}
 use Rattle.sender.specs.declared.Heard.the-variants as heard
 use Rattle.sender.specs.declared.Heard.{Heard as ForSender}
 use Rattle.reader.specs.Reader.{ReaderState, CoreState, Output, sent, refused, noPacketStep, senderHears, packetStep, heardStep, readerStep, withCore, timeOut}
@@ -51,14 +51,20 @@ hub-run {body} {f} j a =
 pub data HubHears (j : Joiner) (body : List ℕ) : Fate → Done HubState joiner.Output → Type 0 where
   takes : HubHears j body whole (record { next = idle (hub.packetStep j body .next); told = hub.packetStep j body .told })
   misses : {f : Fate} → arrived f ≡ false → HubHears j body f (record { next = idle j; told = [] })
-  refuses : {f : Fate} {r : Refusal} → arrived f ≡ false → causeOf r ≡ 1 → HubHears j body f (record { next = idle j; told = joiner.refused r ∷ [] })
+  refuses : {f : Fate} {r : Refusal} → arrived f ≡ false →
+      HubHears j body f (record { next = idle j; told = joiner.refused r ∷ joiner.answered (seal (replyBody host (reply.Nak 1))) ∷ [] })
+
+-- A refusal of cause 1 asks for the copy again.
+asks-again : (r : Refusal) → causeOf r ≡ 1 → given joiner.answered (nakBytes host r) ≡ joiner.answered (seal (replyBody host (reply.Nak 1))) ∷ []
+unfolding given nakBytes seal replyBody replyOpcode replyData bodyOf
+asks-again r c = simp c
 
 hub-by : {body : List ℕ} {f : Fate} {hs : List Heard} (j : Joiner) → Comes body f hs →
     HubHears j body f (record { next = idle (through hub.heardStep j hs .next); told = through hub.heardStep j hs .told })
 unfolding through after hub.heardStep
 hub-by {body} j came = rw (append-nil (hub.packetStep j body .told)) takes
 hub-by j (stayed e silence) = misses e
-hub-by j (stayed e (noise c)) = refuses e c
+hub-by j (stayed e (noise {r} c)) = rw (asks-again r c) (refuses e)
 
 pub hub-hears : {body : List ℕ} {f : Fate} (j : Joiner) → Arrival body f → HubHears j body f (through hubStep (idle j) (arrives f (seal body)))
 hub-hears j a = rw (hub-run j a) (hub-by j (a .comes))
@@ -102,7 +108,7 @@ resends-something false p s e f = let g = simp e at f in never (cc)
 
 module _ (p : List ℕ) (n k : ℕ) (f : Bool) where
   answers-something : {x : Reply} {h : ForSender} (ps : List (List ℕ)) → Says x h → senderStep (busy p ps n k f) h .told ≡ [] → ⊥
-  unfolding senderStep answered
+  unfolding senderStep outStep
   answers-something [] ack e = never (cc)
   answers-something (q ∷ ps) ack e = never (cc)
   answers-something ps again e = resends-something (ltb n 2) p (busy p ps n k f) refl e

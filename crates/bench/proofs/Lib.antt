@@ -1,7 +1,6 @@
 pub mod Arriving
 pub mod Carrying
 pub mod Cases
-pub mod Demand1
 pub mod Demand3
 pub mod Growing
 pub mod Hearing

@@ -16,14 +16,14 @@ use Rattle.packet.proofs.Theorems.{Body}
 use Rattle.framer.specs.declared.Event.{Event}
 use Rattle.hub.specs.Joiner.{Joiner}
 use Rattle.hub.specs.Joiner as joiner
-use Rattle.hub.specs.Hub.{HubState, packetStep, nakBytes, answerBytes}
+use Rattle.hub.specs.Hub.{HubState, packetStep}
 use Rattle.hub.proofs.Theorems.{idle}
 use Rattle.sender.specs.Sender.{SenderState, senderStep}
 use Rattle.sender.specs.declared.Heard.{Heard}
 use Rattle.sender.specs.declared.Heard.the-variants as heard
 use Rattle.sender.proofs.Theorems.{Again, nak, time}
 use Rattle.reader.specs.Reader.{ReaderState, Output}
-use Rattle.bench.specs.Bench.{Fate, whole, arrives, Fair, Try, Begun, Message, latest, trying, Sheet, Bench, handing, noting, hubHears, readerHears, tried, trial, attempt, benchStep}
+use Rattle.bench.specs.Bench.{Fate, whole, arrives, Fair, Try, Begun, Message, latest, trying, Sheet, Bench, handing, hubAnswers, noting, hubHears, readerHears, tried, trial, attempt, benchStep}
 use Rattle.bench.specs.Delivery.{arrived, Bad}
 use Rattle.bench.proofs.Arriving.{arrival}
 use Rattle.bench.proofs.Hearing.{HubHears, takes, misses, refuses, hub-hears, withSender, busy, ack, again, reply-body, Hears, answeredIn, ReaderHears, in-time, too-late, reader-hears, reader-waits}
@@ -42,8 +42,8 @@ tryEnds r s c log t j ms h = benchOf r j (senderStep s h .next) (sheetAfter s c 
 -- The copy, where the hub takes it, leaves this joiner and is told so.
 pub data Round (r : ReaderState) (s : SenderState) (c : List ℕ) (log : List Begun) (j j′ : Joiner) (o : joiner.Output) (ms : List Message) (t : Try) :
     Bench → Type 0 where
-  acknowledged : Round r s c log j j′ o ms t (tryEnds r s c log t j′ (handing (o ∷ []) ms) heard.Ack)
-  unanswered : {h : Heard} → Again h → Bad t → Round r s c log j j′ o ms t (tryEnds r s c log t j′ (handing (o ∷ []) ms) h)
+  acknowledged : Round r s c log j j′ o ms t (tryEnds r s c log t j′ (handing (joiner.acknowledged o) ms) heard.Ack)
+  unanswered : {h : Heard} → Again h → Bad t → Round r s c log j j′ o ms t (tryEnds r s c log t j′ (handing (joiner.acknowledged o) ms) h)
   missed : {h : Heard} → Again h → Bad t → Round r s c log j j′ o ms t (tryEnds r s c log t j ms h)
 
 abbrev tryOf : Fate → Fate → Try
@@ -54,12 +54,12 @@ bad-going f coming e = ap (λ (d : Bool). both d (arrived coming)) e
 
 -- What arrives at the reader of all that the hub told.
 abbrev answers : Fate → List joiner.Output → List Event
-answers f told = flatMap (λ (o : joiner.Output). arrives f (answerBytes o)) told
+answers f told = flatMap (arrives f) (hubAnswers told)
 
--- The one thing that the hub told is answered by one reply.
-one-answer : (x : Reply) (f : Fate) (o : joiner.Output) → answerBytes o ≡ seal (replyBody host x) → answers f (o ∷ []) ≡ arrives f (seal (replyBody host x))
+-- The hub gave one answer.
+one-answer : (x : Reply) (f : Fate) (told : List joiner.Output) → hubAnswers told ≡ seal (replyBody host x) ∷ [] → answers f told ≡ arrives f (seal (replyBody host x))
 unfolding flatMap
-one-answer x f o e = append-nil (arrives f (answerBytes o)) ∙ ap (arrives f) e
+one-answer x f told e = rw e (append-nil (arrives f (seal (replyBody host x))))
 
 -- With a copy on the line there is something to try.
 trial-some : (b : Bench) (t : Try) (c : List ℕ) → 1 ≤ length c → trial c b t ≡ tried b t (hubHears b t) (readerHears b t (hubHears b t .told))
@@ -92,7 +92,7 @@ module _ (r : ReaderState) (p : List ℕ) (ps : List (List ℕ)) (n k : ℕ) (g 
   tried-so t hd q = rw (q .next-is, q .sent-is, q .quiet) refl
 
   took : {coming : Fate} {rd : Done ReaderState Output} → ReaderHears r s heard.Ack coming rd →
-      Rounds (tryOf whole coming) (tried b (tryOf whole coming) (record { next = idle j′; told = o ∷ [] }) rd)
+      Rounds (tryOf whole coming) (tried b (tryOf whole coming) (record { next = idle j′; told = joiner.acknowledged o }) rd)
   unfolding arrived
   took (in-time q) = rw (tried-so _ _ q) acknowledged
   took (too-late e q) = rw (tried-so _ _ q) (unanswered time e)
@@ -107,16 +107,17 @@ module _ (r : ReaderState) (p : List ℕ) (ps : List (List ℕ)) (n k : ℕ) (g 
   refused-copy told e q (in-time h) = left-as-it-was told e q nak h
   refused-copy told e q (too-late l h) = left-as-it-was told e q time h
 
-  module _ (takes-it : packetStep j c ≡ record { next = j′; told = o ∷ [] }) (acked : answerBytes o ≡ seal (replyBody host reply.Ack)) where
+  module _ (takes-it : packetStep j c ≡ record { next = j′; told = joiner.acknowledged o }) (acked : hubAnswers (joiner.acknowledged o) ≡ seal (replyBody host reply.Ack) ∷ []) where
     round-by : {going : Fate} {hd : Done HubState joiner.Output} (coming : Fate) → Fair coming → HubHears j c going hd →
         Rounds (tryOf going coming) (tried b (tryOf going coming) hd (answeredIn (withSender r s) (answers coming (hd .told))))
-    unfolding flatMap handing answerBytes nakBytes
+    unfolding flatMap handing hubAnswers
     round-by coming fair takes =
-        rw (takes-it, one-answer reply.Ack coming o acked) (took (reader-hears r p ps n k g ack (arrival (replyBody host reply.Ack) (reply-body ack) fair)))
+        rw (takes-it, one-answer reply.Ack coming (joiner.acknowledged o) acked) (took (reader-hears r p ps n k g ack (arrival (replyBody host reply.Ack) (reply-body ack) fair)))
     round-by coming fair (misses e) = left-as-it-was [] e refl time (reader-waits r p ps n k g)
-    round-by coming fair (refuses {r = x} e cause) =
-        rw (one-answer (reply.Nak 1) coming (joiner.refused x) (rw cause refl))
-        (refused-copy (joiner.refused x ∷ []) e refl (reader-hears r p ps n k g again (arrival (replyBody host (reply.Nak 1)) (reply-body again) fair)))
+    round-by coming fair (refuses {r = x} e) =
+        let told : List joiner.Output = joiner.refused x ∷ joiner.answered (seal (replyBody host (reply.Nak 1))) ∷ [] in
+        rw (one-answer (reply.Nak 1) coming told refl)
+        (refused-copy told e refl (reader-hears r p ps n k g again (arrival (replyBody host (reply.Nak 1)) (reply-body again) fair)))
 
     -- A fair try of a copy on the line is one of the three.
     pub round : (t : Try) → Body c → Fair (t .going) → Fair (t .coming) → Rounds t (benchStep b (attempt t))

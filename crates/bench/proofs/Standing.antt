@@ -1,12 +1,12 @@
 -- How a bench stands between two moves. At rest: nothing is out, and a gap is due or the hub has gathered nothing and accepted last what
 -- the line carried last. At work: a packet is out, all its tries so far were bad, and the hub has it not yet, or has it already. Assumes nothing.
-use Prim.Native.Nat.{ℕ, _%_, _≤_}
-use mathlib.Core.Path.{_≡_, refl}
+use Prim.Native.Nat.{ℕ, _%_, _≤_, zero, suc, _+_}
+use mathlib.Core.Path.{_≡_, refl, ap, _∙_}
 use mathlib.Core.Bool.{Bool, true, false, not}
-use mathlib.Core.List.{List, [], _∷_}
+use mathlib.Core.List.{List, [], _∷_, _++_}
 use native.Mathlib.Omega.{arith}
 use lib.Dec.{eqb}
-use lib.ListN.{length, getD}
+use lib.ListN.{length, getD, replicate}
 use borrow.Author.Tests.{not-true, eq-eqb}
 use Rattle.words.specs.Lists.{pick, sameBytes, Each, none, one}
 use Rattle.words.proofs.Lists.{both-left, same-refl, same-equal, never}
@@ -15,11 +15,11 @@ use Rattle.packet.specs.Packet.{seal, replyBody, marked}
 use Rattle.packet.specs.declared.Reply.the-variants.{Ack}
 use Rattle.hub.specs.Joiner.{Gathered, Joiner}
 use Rattle.hub.specs.Joiner as joiner
-use Rattle.hub.specs.Hub.{packetStep, answerBytes}
+use Rattle.hub.specs.Hub.{packetStep}
 use Rattle.sender.specs.Sender.{SenderState}
 use Rattle.sender.specs.Pieces.{packetsOf}
 use Rattle.reader.specs.Reader.{ReaderState}
-use Rattle.bench.specs.Bench.{Try, Tried, Ending, delivered, failed, out, Begun, Message, Sheet, Bench, handing}
+use Rattle.bench.specs.Bench.{Try, Tried, Ending, delivered, failed, out, Begun, Message, Sheet, Bench, handing, hubAnswers}
 use Rattle.bench.specs.Delivery.{OnLine, sent, gap, onLine, apart, messageOf, HandsOut, handed, passed-over, Thrice, Bad, Honest, inOrder, Sends}
 use Rattle.bench.proofs.Carrying.{free, Copy, first, another, New, Sendable, Carries, Onward, goes-on, came-out, next}
 use Rattle.bench.proofs.Hearing.{busy}
@@ -65,9 +65,20 @@ pub data Rested (log : List Begun) : Bool → Joiner → Type 0 where
 
 -- ---- at work
 
--- A message whose latest packet is this one.
-abbrev pub present : ℕ → List ℕ → Bool → Ending → List ℕ → List Try → List Tried → Begun
-present code bytes g x p ts older = record { code = code; bytes = bytes; gap = g; ending = x; packets = record { body = p; tries = ts } ∷ older }
+-- A packet with so many marked copies, and a message whose latest packet this is.
+abbrev pub packetOf : List ℕ → ℕ → List Try → Tried
+packetOf p n ts = record { body = p; copies = replicate n (seal (marked p)) ++ (seal p ∷ []); tries = ts }
+
+abbrev pub present : ℕ → List ℕ → Bool → Ending → List ℕ → ℕ → List Try → List Tried → Begun
+present code bytes g x p n ts older = record { code = code; bytes = bytes; gap = g; ending = x; packets = packetOf p n ts ∷ older }
+
+copies-number : (p : List ℕ) (n : ℕ) → length (packetOf p n [] .copies) ≡ suc n
+copies-number p zero = refl
+copies-number p (suc n) = ap suc (copies-number p n)
+
+-- With at most two of these it was sent at most three times.
+pub at-most-thrice : {waiting n : ℕ} {p : List ℕ} (ts : List Try) → n ≤ 2 → suc n ≡ waiting + length ts → Thrice waiting (packetOf p n ts)
+at-most-thrice {n = n} {p} ts h e = record { again = n; few = h; copies-are = refl; tried = copies-number p n ∙ e }
 
 -- The copy on the line: the first one has no mark.
 abbrev pub copyOf : List Try → List ℕ → List ℕ
@@ -79,23 +90,19 @@ pub record Out (code : ℕ) (bytes p : List ℕ) (ps : List (List ℕ)) (ts : Li
   pub sendable : Sendable p
   pub few : length ts ≤ 2
   pub bad : Each Bad ts
-  pub thrice : Each Thrice older
+  pub thrice : Each (Thrice 0) older
   pub order : inOrder older (p ∷ ps) ≡ packetsOf code bytes
   pub honest : Each Honest log
   pub sends : Each Sends log
 
--- No packet of it was tried more than three times.
-pub thrice-all : {p : List ℕ} {older : List Tried} (ts : List Try) → length ts ≤ 3 → Each Thrice older → Each Thrice (record { body = p; tries = ts } ∷ older)
-thrice-all ts h k = one h k
-
 -- At the first copy of a packet nothing was tried.
-pub first-copy : {code : ℕ} {bytes q : List ℕ} {qs : List (List ℕ)} {older : List Tried} {log : List Begun} → Sendable q → Each Thrice older →
+pub first-copy : {code : ℕ} {bytes q : List ℕ} {qs : List (List ℕ)} {older : List Tried} {log : List Begun} → Sendable q → Each (Thrice 0) older →
     inOrder older (q ∷ qs) ≡ packetsOf code bytes → Each Honest log → Each Sends log → Out code bytes q qs [] older log
 first-copy s t o h l = record { sendable = s; few = omega arith; bad = none; thrice = t; order = o; honest = h; sends = l }
 
 -- It is noted as a packet's first, having no mark.
-pub noted-first : {q : List ℕ} (log log′ : List Begun) → Sendable q → pick (eqb (getD q 3 0 % 2) 0) log log′ ≡ log
-noted-first {q} log log′ s = simp (eq-eqb (getD q 3 0 % 2) 0 (s .even))
+pub noted-first : {q : List ℕ} (f g : Begun → Begun) → Sendable q → pick (eqb (getD q 3 0 % 2) 0) f g ≡ f
+noted-first {q} f g s = simp (eq-eqb (getD q 3 0 % 2) 0 (s .even))
 
 -- The hub has the packet not yet, or it has it already, and then all copies to come are marked. With the messages handed out before this one
 -- and those handed out by now.
@@ -119,10 +126,10 @@ not-ended m d e h (already came-out) = handed e h
 -- What the hub makes of the copy on the line: it acknowledges it, and has the packet then.
 pub record Takes (code : ℕ) (bytes p : List ℕ) (ps : List (List ℕ)) (xs : List Message) (ts : List Try) (j : Joiner) (ms : List Message) : Type 0 where
   pub told : joiner.Output
-  pub acked : answerBytes told ≡ seal (replyBody host Ack)
+  pub acked : hubAnswers (joiner.acknowledged told) ≡ seal (replyBody host Ack) ∷ []
   pub gathered : Gathered
-  pub step : packetStep j (copyOf ts p) ≡ record { next = free p gathered; told = told ∷ [] }
-  pub onward : Onward code bytes gathered ps xs (handing (told ∷ []) ms)
+  pub step : packetStep j (copyOf ts p) ≡ record { next = free p gathered; told = joiner.acknowledged told }
+  pub onward : Onward code bytes gathered ps xs (handing (joiner.acknowledged told) ms)
 
 a-copy : (ts : List Try) (p : List ℕ) → Copy p (copyOf ts p)
 a-copy [] p = first
@@ -130,7 +137,7 @@ a-copy (t ∷ ts) p = another
 
 pub takes : {code : ℕ} {bytes p : List ℕ} {ps : List (List ℕ)} {xs ms : List Message} {ts : List Try} {j : Joiner} → Sendable p →
     Has code bytes p ps xs ts j ms → Takes code bytes p ps xs ts j ms
-unfolding answerBytes handing
+unfolding hubAnswers handing
 takes {p = p} {xs = xs} s (not-yet {ts} {l} {g} n k) =
     let q = next k in
     record { told = q .told; acked = q .acked; gathered = q .gathered; step = q .moves l (copyOf ts p) (a-copy ts p) n; onward = q .onward xs }
@@ -143,7 +150,7 @@ pub data Stands : Joiner → SenderState → Sheet → List Message → Type 0 w
       Stands j s (record { copy = []; log = log }) ms
   at-work : {code : ℕ} {bytes p : List ℕ} {ps : List (List ℕ)} {ts : List Try} {older : List Tried} {log : List Begun} {g : Bool} {k : ℕ} {j : Joiner}
       {xs ms : List Message} → Out code bytes p ps ts older log → HandsOut log xs → Has code bytes p ps xs ts j ms →
-      Stands j (busy p ps (length ts) k false) (record { copy = copyOf ts p; log = present code bytes g out p ts older ∷ log }) ms
+      Stands j (busy p ps (length ts) k false) (record { copy = copyOf ts p; log = present code bytes g out p (length ts) ts older ∷ log }) ms
 
 -- A bench stands, with nothing begun on its lines and no stray bytes.
 pub record Standing (r : ReaderState) (b : Bench) : Type 0 where

@@ -12,6 +12,7 @@ use Rattle.words.specs.Lists.{either, Bytes, none as no-try}
 use Rattle.words.specs.Machine.{through}
 use Rattle.framer.specs.Framer.{atGap, framerStep}
 use Rattle.framer.specs.Behind.{framed}
+use Rattle.packet.specs.Sizes.{messageSize}
 use Rattle.hub.specs.Joiner.{Joiner}
 use Rattle.hub.specs.Joiner as joiner
 use Rattle.hub.specs.Hub.{cleared, hubStep}
@@ -22,7 +23,7 @@ use Rattle.sender.specs.Sender.{SenderState, some, waits, gapDue, startStep}
 use Rattle.sender.proofs.Theorems.{start-accepted, start-refused}
 use Rattle.reader.specs.Reader.{ReaderState, startMessage, withCore, senderHears}
 use Rattle.reader.proofs.Answering.{sent-sent}
-use Rattle.bench.specs.Bench.{out, Begun, Message, Sheet, Bench, latest, handing, noted, noting, gapFirst, begins, begin, start, benchStep}
+use Rattle.bench.specs.Bench.{out, Begun, Message, Sheet, Bench, latest, handing, hubAnswers, noted, noting, gapFirst, begins, begin, start, benchStep}
 use Rattle.bench.specs.Delivery.{gapOf, onLine, apart, inOrder}
 use Rattle.bench.proofs.Carrying.{free, Sendable, Carries, first-sendable, packets-carry}
 use Rattle.bench.proofs.Hearing.{withSender, busy}
@@ -47,22 +48,22 @@ module _ (r : ReaderState) (j : Joiner) (s : SenderState) (sheet : Sheet) (ms : 
   start-is = rw (sent-sent (startStep s code m .told)) refl
 
   -- A refused start begins nothing.
-  start-stays : either (ltb 4096 (length m)) (waits s) ≡ true → benchStep b (start code m) ≡ b
+  start-stays : either (ltb messageSize (length m)) (waits s) ≡ true → benchStep b (start code m) ≡ b
   unfolding begins
   start-stays e = start-is ∙ rw (start-refused s code m e) refl
 
 -- An accepted one puts the first packet on the line.
 start-begins : {log : List Begun} {f : Bool} {j : Joiner} {p : List ℕ} {ps : List (List ℕ)} (r : ReaderState) (s : SenderState) (ms : List Message)
-    (code : ℕ) (m : List ℕ) → length m ≤ 4096 → waits s ≡ false → s .failed ≡ f → Rested log f j → packetsOf code m ≡ p ∷ ps → Sendable p →
+    (code : ℕ) (m : List ℕ) → length m ≤ messageSize → waits s ≡ false → s .failed ≡ f → Rested log f j → packetsOf code m ≡ p ∷ ps → Sendable p →
     benchStep (benchOf r j s (record { copy = []; log = log }) ms) (start code m)
-    ≡ benchOf r (free (lastOn (gapOf f ++ onLine log)) joiner.none) (busy p ps 0 0 false) (record { copy = p; log = present code m f out p [] [] ∷ log }) ms
-unfolding begins sender.begins noting noted latest handing flatMap
+    ≡ benchOf r (free (lastOn (gapOf f ++ onLine log)) joiner.none) (busy p ps 0 0 false) (record { copy = p; log = present code m f out p 0 [] [] ∷ log }) ms
+unfolding begins sender.begins noting noted latest handing hubAnswers flatMap
 start-begins {log} {f} {j} {p} {ps} r s ms code m few w q k e c =
     start-is r j s (record { copy = []; log = log }) ms code m
     ∙ rw (start-accepted s code m few w, e, q, gap-first k, noted-first _ _ c) refl
 
 begun-stands : {log : List Begun} {f : Bool} {j : Joiner} {qs : List (List ℕ)} (r : ReaderState) (s : SenderState) (ms : List Message) (code : ℕ) (m : List ℕ) →
-    length m ≤ 4096 → waits s ≡ false → s .failed ≡ f → Past log ms → Rested log f j → packetsOf code m ≡ qs → Carries code m joiner.none qs →
+    length m ≤ messageSize → waits s ≡ false → s .failed ≡ f → Past log ms → Rested log f j → packetsOf code m ≡ qs → Carries code m joiner.none qs →
     apart (onLine (benchStep (benchOf r j s (record { copy = []; log = log }) ms) (start code m) .sheet .log)) ≡ true →
     Standing r (benchStep (benchOf r j s (record { copy = []; log = log }) ms) (start code m))
 unfolding inOrder onLine
@@ -84,18 +85,18 @@ refused-waits false p ps = refl
 
 -- Nothing is out: a message of at most 4,096 bytes is begun.
 rest-starts : {log : List Begun} {f : Bool} {j : Joiner} (r : ReaderState) (s : SenderState) (ms : List Message) (code : ℕ) (m : List ℕ) (d : Bool) →
-    ltb 4096 (length m) ≡ d → code < 256 → Bytes m → s .queue ≡ [] → s .failed ≡ f → Past log ms → Rested log f j →
+    ltb messageSize (length m) ≡ d → code < 256 → Bytes m → s .queue ≡ [] → s .failed ≡ f → Past log ms → Rested log f j →
     apart (onLine (benchStep (benchOf r j s (record { copy = []; log = log }) ms) (start code m) .sheet .log)) ≡ true →
     Standing r (benchStep (benchOf r j s (record { copy = []; log = log }) ms) (start code m))
 rest-starts {log} {f} {j} r s ms code m true e c bytes q g past k a =
     rw (start-stays r j s (record { copy = []; log = log }) ms code m (rw e refl)) (standing (at-rest q g past k))
 rest-starts r s ms code m false e c bytes q g past k a =
-    let few = ltb-false 4096 (length m) e in
+    let few = ltb-false messageSize (length m) e in
     begun-stands r s ms code m few (idle-waits s q) g past k refl (packets-carry code m c bytes few) a
 
 pub start-stands : {j : Joiner} {s : SenderState} {sheet : Sheet} {ms : List Message} (r : ReaderState) (code : ℕ) (m : List ℕ) → code < 256 → Bytes m →
     Stands j s sheet ms → apart (onLine (benchStep (benchOf r j s sheet ms) (start code m) .sheet .log)) ≡ true →
     Standing r (benchStep (benchOf r j s sheet ms) (start code m))
-start-stands r code m c bytes (at-rest {s = s} {ms = ms} q g past k) a = rest-starts r s ms code m (ltb 4096 (length m)) refl c bytes q g past k a
+start-stands r code m c bytes (at-rest {s = s} {ms = ms} q g past k) a = rest-starts r s ms code m (ltb messageSize (length m)) refl c bytes q g past k a
 start-stands {j} {s} {sheet} {ms} r code m c bytes (at-work {p = p} {ps} w h has) a =
-    rw (start-stays r j s sheet ms code m (refused-waits (ltb 4096 (length m)) p ps)) (standing (at-work w h has))
+    rw (start-stays r j s sheet ms code m (refused-waits (ltb messageSize (length m)) p ps)) (standing (at-work w h has))

@@ -8,11 +8,11 @@ use Rattle.bench.specs.Bench as bench
 use Rattle.bench.specs.Bench.{delivered, failed, out}
 use Rattle.bench.specs.Delivery as delivery
 use Rattle.bench.specs.Delivery.{onLine, apart}
-use Rattle.bench.specs.Stories.{runs, fared, sample8, sample8Handed, everyFate, equalCards, barredTells, barredExpected}
+use Rattle.bench.specs.Stories.{runs, faredOne, fared, allCopies, sample8, sample8Handed, sample8Copies, everyFate, equalCards, barredTells, barredExpected}
 use Rattle.bench.proofs.Opening.{opening}
 
 all-of-it : ℕ
-unfolding opening bench.left bench.gapAfter bench.arrives bench.packetsIn bench.accepted bench.latest bench.handing sentOf bench.answersIn bench.noted bench.noting bench.gapFirst bench.begins bench.begin bench.hubHears bench.inTime bench.readerHears bench.tried bench.trial bench.benchStep bench.played bench.bench delivery.gapOf delivery.onLine delivery.apart runs fared barredTells flatMap
+unfolding opening bench.left bench.gapAfter bench.arrives bench.packetsIn bench.accepted bench.latest bench.handing bench.hubAnswers sentOf bench.answersIn bench.noted bench.noting bench.gapFirst bench.begins bench.begin bench.hubHears bench.inTime bench.readerHears bench.tried bench.trial bench.benchStep bench.played bench.bench delivery.gapOf delivery.onLine delivery.apart runs faredOne fared allCopies barredTells flatMap
 all-of-it = 0
 
 -- ---- sample 8
@@ -22,19 +22,25 @@ pub sample-8-handed : runs sample8 .handed ≡ sample8Handed
 unfolding all-of-it
 sample-8-handed = refl
 
+-- Its last packet is written twice, and only the second copy has the resend mark.
+pub sample-8-copies : allCopies (runs sample8) ≡ sample8Copies
+unfolding all-of-it
+sample-8-copies = refl
+
 -- It is called delivered. Its last packet, the latest, was tried twice.
-pub sample-8-fared : fared (runs sample8) ≡ record { ending = delivered; tries = 2 ∷ 1 ∷ [] } ∷ []
+pub sample-8-fared : fared (runs sample8) ≡ record { ending = delivered; copies = 2 ∷ 1 ∷ []; tries = 2 ∷ 1 ∷ [] } ∷ []
 unfolding all-of-it
 sample-8-fared = refl
 
 -- ---- every kind of fate
 
--- From the latest: one still out; one delivered at the second try; one that failed, though the hub had it; one delivered at the third try.
+-- From the latest: one still out, whose second copy waits; one delivered at the second try; one that failed, though the hub had it; one
+-- delivered at the third try.
 pub every-fate-fared : fared (runs everyFate)
-    ≡ record { ending = out; tries = 1 ∷ [] }
-    ∷ record { ending = delivered; tries = 2 ∷ [] }
-    ∷ record { ending = failed; tries = 3 ∷ [] }
-    ∷ record { ending = delivered; tries = 3 ∷ [] }
+    ≡ record { ending = out; copies = 2 ∷ []; tries = 1 ∷ [] }
+    ∷ record { ending = delivered; copies = 2 ∷ []; tries = 2 ∷ [] }
+    ∷ record { ending = failed; copies = 3 ∷ []; tries = 3 ∷ [] }
+    ∷ record { ending = delivered; copies = 3 ∷ []; tries = 3 ∷ [] }
     ∷ []
 unfolding all-of-it
 every-fate-fared = refl
@@ -47,7 +53,8 @@ every-fate-handed = refl
 -- ---- two equal cards
 
 -- Both are called delivered, and only one is handed out.
-pub equal-cards-fared : fared (runs equalCards) ≡ record { ending = delivered; tries = 2 ∷ [] } ∷ record { ending = delivered; tries = 1 ∷ [] } ∷ []
+pub equal-cards-fared : fared (runs equalCards)
+    ≡ record { ending = delivered; copies = 2 ∷ []; tries = 2 ∷ [] } ∷ record { ending = delivered; copies = 1 ∷ []; tries = 1 ∷ [] } ∷ []
 unfolding all-of-it
 equal-cards-fared = refl
 

@@ -13,6 +13,7 @@ use Rattle.words.specs.Machine.{Done, after, through}
 use Rattle.words.proofs.Machine.{through-append, through-one}
 use Rattle.packet.specs.Opcodes.{host, reader, decodeData}
 use Rattle.packet.specs.Packet.{bodyOf, seal, replyBody, unmarked, resentEqual}
+use Rattle.packet.specs.Sizes.{messageSize}
 use Rattle.packet.specs.declared.Reply.the-variants.{Ack}
 use Rattle.packet.proofs.Theorems.{Body, data-of}
 use Rattle.framer.specs.Framer.{hearing, packet, atGap, framerStep}
@@ -20,13 +21,14 @@ use Rattle.framer.specs.declared.Event.{Event}
 use Rattle.framer.specs.declared.Event.the-variants.{Byte, CharacterGap}
 use Rattle.framer.proofs.Theorems.{packet-found}
 use Rattle.framer.proofs.Behind.{framed-run}
-use Rattle.hub.specs.Joiner.{none, some, Joiner, Output, added, handed, typeIn, pieceIn, otherType, bytesOf, joined}
-use Rattle.hub.specs.Hub.{HubState, switchedOn, packetStep, heardStep, hubStep, answerBytes}
+use Rattle.hub.specs.Joiner.{none, some, Joiner, Output, added, handed, acknowledged, typeIn, pieceIn, otherType, bytesOf, joined}
+use Rattle.hub.specs.Hub.{HubState, switchedOn, packetStep, heardStep, hubStep}
 use Rattle.hub.proofs.Calm.{Calm, ends, gap, calm-append, calm-bytes, calm-run, heard-packets}
 use Rattle.hub.proofs.Theorems.{piece-decodes, piece-joined}
 use Rattle.sender.specs.Pieces.{bodiesOf, packetsOf}
 use Rattle.sender.proofs.Cutting.{Cut, last, more, pieces-are-cut, cut-some, bodies-more}
 use Rattle.sender.proofs.Theorems.{packets-bodies, packets-number, packets-some}
+use Rattle.bench.specs.Bench.{hubAnswers}
 use Rattle.bench.specs.Whole.{copyThen, copiesOf, closeCopiesOf, Rests, wholeTold, TakesIn}
 
 -- ---- one packet of a message at the hub
@@ -52,7 +54,7 @@ module _ (t code : ℕ) (p : List ℕ) where
 pub record Takes (j : Joiner) (code n : ℕ) : Type 0 where
   pub free : j .barred ≡ false
   pub same : otherType (j .gathered) code ≡ false
-  pub fits : length (bytesOf (j .gathered)) + n ≤ 4096
+  pub fits : length (bytesOf (j .gathered)) + n ≤ messageSize
 
 -- The joiner behind a packet that was added.
 abbrev pub withPiece : Joiner → ℕ → ℕ → List ℕ → Joiner
@@ -70,13 +72,13 @@ module _ (j : Joiner) (t code : ℕ) (p : List ℕ) where
 
   -- With the more bit it is added; without it, it ends the message, which is handed out.
   module _ (r : resentEqual (j .last) (pieceBody t code p) ≡ false) (k : Takes j code (length p)) where
-    pub piece-added : t / 2 ≡ 1 → packetStep j (pieceBody t code p) ≡ record { next = withPiece j t code p; told = added ∷ [] }
+    pub piece-added : t / 2 ≡ 1 → packetStep j (pieceBody t code p) ≡ record { next = withPiece j t code p; told = acknowledged added }
     unfolding joined
     piece-added e = taken (omega arith) r k ∙ simp (status-in t code p, ne-eqb (t / 2 % 2) 0 (λ z. omega arith), type-in t code p, piece-in t code p)
 
     pub piece-handed : t / 2 ≡ 0 →
         packetStep j (pieceBody t code p)
-        ≡ record { next = record { barred = false; last = unmarked (pieceBody t code p); gathered = none }; told = handed code (bytesOf (j .gathered) ++ p) ∷ [] }
+        ≡ record { next = record { barred = false; last = unmarked (pieceBody t code p); gathered = none }; told = acknowledged (handed code (bytesOf (j .gathered) ++ p)) }
     unfolding joined
     piece-handed e = taken (omega arith) r k ∙ simp (status-in t code p, eq-eqb (t / 2 % 2) 0 (omega arith), type-in t code p, piece-in t code p)
 
@@ -89,16 +91,16 @@ takes-rest j t code p k = record { free = refl; same = rw (eq-eqb code code refl
 
 -- ---- all packets of a message at the hub
 
--- So many pieces added, then this message handed out; nothing is gathered and no bar is set.
+-- So many pieces added, then this message handed out, each acknowledged; nothing is gathered and no bar is set.
 pub record Finishes (code : ℕ) (whole : List ℕ) (n : ℕ) (d : Done Joiner Output) : Type 0 where
-  pub told-is : d .told ≡ replicate n added ++ (handed code whole ∷ [])
+  pub told-is : d .told ≡ flatMap acknowledged (replicate n added ++ (handed code whole ∷ []))
   pub free : d .next .barred ≡ false
   pub empty : d .next .gathered ≡ none
 
 finishes-after : {code n n′ : ℕ} {whole whole′ : List ℕ} {d : Done Joiner Output} → n′ ≡ suc n → whole′ ≡ whole → Finishes code whole n d →
-    Finishes code whole′ n′ (after (added ∷ []) d)
-unfolding after
-finishes-after e w k = rw (e, w) (record { told-is = ap (λ (l : List Output). added ∷ l) (k .told-is); free = k .free; empty = k .empty })
+    Finishes code whole′ n′ (after (acknowledged added) d)
+unfolding after flatMap
+finishes-after e w k = rw (e, w) (record { told-is = ap (λ (l : List Output). acknowledged added ++ l) (k .told-is); free = k .free; empty = k .empty })
 
 -- The first piece goes behind what is gathered already.
 pub piece-first : (gathered m : List ℕ) → gathered ++ m ≡ (gathered ++ take 250 m) ++ drop 250 m
@@ -107,7 +109,7 @@ piece-first gathered m = sym (append-assoc gathered (take 250 m) (drop 250 m) �
 -- The pieces of a message are joined to it, behind what is gathered already.
 pieces-finish : (code : ℕ) {m : List ℕ} {ps : List (List ℕ)} (j : Joiner) → Cut m ps → Takes j code (length m) →
     Finishes code (bytesOf (j .gathered) ++ m) (length ps - 1) (through packetStep j (bodiesOf code ps))
-unfolding bodiesOf through bytesOf
+unfolding bodiesOf through bytesOf flatMap
 pieces-finish code j (last {m} h) k =
     rw (through-one packetStep j (pieceBody 0 code m), piece-handed j 0 code m (no-repeat j 0 code m refl) k refl) (record { told-is = refl; free = refl; empty = refl })
 pieces-finish code j (more {m} {ps} h c) k =
@@ -151,12 +153,12 @@ module _ (behind : List Event) (calm : Calm behind) (q : through framerStep (hea
 -- ---- the theorem
 
 -- Each of these is answered by an ACK.
-acked : (code : ℕ) (m : List ℕ) (n : ℕ) → map answerBytes (replicate n added ++ (handed code m ∷ [])) ≡ replicate (suc n) (seal (replyBody host Ack))
-unfolding answerBytes
+acked : (code : ℕ) (m : List ℕ) (n : ℕ) → hubAnswers (flatMap acknowledged (replicate n added ++ (handed code m ∷ []))) ≡ replicate (suc n) (seal (replyBody host Ack))
+unfolding hubAnswers flatMap
 acked code m zero = refl
 acked code m (suc n) = ap (λ (l : List (List ℕ)). seal (replyBody host Ack) ∷ l) (acked code m n)
 
-module _ (hub : HubState) (code : ℕ) (m : List ℕ) (r : Rests hub) (c : code < 256) (bytes : Bytes m) (few : length m ≤ 4096) where
+module _ (hub : HubState) (code : ℕ) (m : List ℕ) (r : Rests hub) (c : code < 256) (bytes : Bytes m) (few : length m ≤ messageSize) where
   nothing-waits : bytesOf (hub .core .gathered) ≡ []
   unfolding bytesOf
   nothing-waits = rw (r .empty) refl
@@ -179,7 +181,7 @@ module _ (hub : HubState) (code : ℕ) (m : List ℕ) (r : Rests hub) (c : code 
       rw (copies-run behind calm q hub (r .idle) (packets-bodies code m c bytes))
       (record {
         told-is = k .told-is;
-        answers = ap (map answerBytes) (k .told-is) ∙ (acked code m (length (packetsOf code m) - 1) ∙ ap (λ (k : ℕ). replicate k (seal (replyBody host Ack))) e);
+        answers = ap hubAnswers (k .told-is) ∙ (acked code m (length (packetsOf code m) - 1) ∙ ap (λ (k : ℕ). replicate k (seal (replyBody host Ack))) e);
         rests = record { idle = refl; free = k .free; empty = k .empty };
       })
 
@@ -198,8 +200,8 @@ module _ (hub : HubState) (code : ℕ) (m : List ℕ) (r : Rests hub) (c : code 
 pub switched-on-rests : Rests switchedOn
 switched-on-rests = record { idle = refl; free = refl; empty = refl }
 
-pub whole : (code : ℕ) (m : List ℕ) → code < 256 → Bytes m → length m ≤ 4096 → TakesIn code m (through hubStep switchedOn (copiesOf code m))
+pub whole : (code : ℕ) (m : List ℕ) → code < 256 → Bytes m → length m ≤ messageSize → TakesIn code m (through hubStep switchedOn (copiesOf code m))
 whole code m = taken-in switchedOn code m switched-on-rests
 
-pub close-whole : (code : ℕ) (m : List ℕ) → code < 256 → Bytes m → length m ≤ 4096 → TakesIn code m (through hubStep switchedOn (closeCopiesOf code m))
+pub close-whole : (code : ℕ) (m : List ℕ) → code < 256 → Bytes m → length m ≤ messageSize → TakesIn code m (through hubStep switchedOn (closeCopiesOf code m))
 close-whole code m = close-taken-in switchedOn code m switched-on-rests

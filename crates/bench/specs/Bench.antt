@@ -1,4 +1,4 @@
--- Document 01, 'The parts on the bench': a hub and a reader's whole end on one line. A copy of a packet goes to the hub, the hub's answer
+-- §14, the bench: a hub and a reader's whole end on one line. A copy of a packet goes to the hub, the hub's answer
 -- comes back, and each of the two arrives whole, is lost or is spoiled.
 use Prim.Native.Nat.{ℕ, _<_}
 use mathlib.Core.Bool.{Bool, true, false}
@@ -13,7 +13,7 @@ use Rattle.framer.specs.Framer.{hearing, Heard, packet, refused as noPacket, fr
 use Rattle.framer.specs.declared.Event.{Event}
 use Rattle.framer.specs.declared.Event.the-variants.{Byte, CharacterGap, MessageGap}
 use Rattle.hub.specs.Joiner as joiner
-use Rattle.hub.specs.Hub.{HubState, hubStep, answerBytes}
+use Rattle.hub.specs.Hub.{HubState, hubStep}
 use Rattle.sender.specs.Sender as sender
 use Rattle.sender.specs.Sender.{gapDue}
 use Rattle.reader.specs.Reader.{ReaderState, Output, refused, repeated, beeped, switched, answered, sent, readerStep, startMessage, timeOut}
@@ -61,9 +61,10 @@ pub record Try : Type 0 where
 
 -- ---- the log
 
--- A packet as its body without resend mark, and the tries of its copies, the latest first.
+-- A packet as its body without resend mark, the bytes of every copy that the sender wrote, and the tries of the copies, the latest first.
 pub record Tried : Type 0 where
   pub body : List ℕ
+  pub copies : List (List ℕ)
   pub tries : List Try
 
 -- What the reader calls a message that it began.
@@ -90,15 +91,25 @@ unfoldable pub latest : {A : Type 0} → (A → A) → List A → List A
 latest f [] = []
 latest f (x ∷ xs) = f x ∷ xs
 
--- A packet is sent for the first time; it has a try; a message ends.
-abbrev pub sending : List ℕ → Begun → Begun
-sending body m = record { code = m .code; bytes = m .bytes; gap = m .gap; ending = m .ending; packets = record { body = body; tries = [] } ∷ m .packets }
+-- One more copy of a packet is written; one more is tried.
+abbrev pub withCopy : List ℕ → Tried → Tried
+withCopy bytes p = record { body = p .body; copies = bytes ∷ p .copies; tries = p .tries }
 
 abbrev pub withTry : Try → Tried → Tried
-withTry t p = record { body = p .body; tries = t ∷ p .tries }
+withTry t p = record { body = p .body; copies = p .copies; tries = t ∷ p .tries }
+
+-- A packet of a message is sent for the first time; it is sent again; it has a try; the message ends.
+abbrev pub withPackets : List Tried → Begun → Begun
+withPackets ps m = record { code = m .code; bytes = m .bytes; gap = m .gap; ending = m .ending; packets = ps }
+
+abbrev pub sending : List ℕ → Begun → Begun
+sending body m = withPackets (record { body = body; copies = seal body ∷ []; tries = [] } ∷ m .packets) m
+
+abbrev pub resending : List ℕ → Begun → Begun
+resending body m = withPackets (latest (withCopy (seal body)) (m .packets)) m
 
 abbrev pub trying : Try → Begun → Begun
-trying t m = record { code = m .code; bytes = m .bytes; gap = m .gap; ending = m .ending; packets = latest (withTry t) (m .packets) }
+trying t m = withPackets (latest (withTry t) (m .packets)) m
 
 abbrev pub ending : Ending → Begun → Begun
 ending x m = record { code = m .code; bytes = m .bytes; gap = m .gap; ending = x; packets = m .packets }
@@ -125,6 +136,16 @@ handing (joiner.added ∷ os) ms = handing os ms
 handing (joiner.repeated ∷ os) ms = handing os ms
 handing (joiner.handed code bytes ∷ os) ms = handing os (record { code = code; bytes = bytes } ∷ ms)
 handing (joiner.refused r ∷ os) ms = handing os ms
+handing (joiner.answered bytes ∷ os) ms = handing os ms
+
+-- The answers that a hub gives, in order.
+unfoldable pub hubAnswers : List joiner.Output → List (List ℕ)
+hubAnswers [] = []
+hubAnswers (joiner.added ∷ os) = hubAnswers os
+hubAnswers (joiner.repeated ∷ os) = hubAnswers os
+hubAnswers (joiner.handed code bytes ∷ os) = hubAnswers os
+hubAnswers (joiner.refused r ∷ os) = hubAnswers os
+hubAnswers (joiner.answered bytes ∷ os) = bytes ∷ hubAnswers os
 
 -- The bytes that a reader answers with.
 unfoldable pub answersIn : List Output → List ℕ
@@ -138,7 +159,7 @@ answersIn (sent x ∷ os) = answersIn os
 
 -- What the sender gives out goes on the sheet. A copy without the mark is a packet's first, one with it is another of the same packet.
 unfoldable pub noted : Sheet → sender.Sent → Sheet
-noted s (sender.copy body) = record { copy = body; log = pick (eqb (resendBit (getD body 3 0)) 0) (latest (sending body) (s .log)) (s .log) }
+noted s (sender.copy body) = record { copy = body; log = latest (pick (eqb (resendBit (getD body 3 0)) 0) (sending body) (resending body)) (s .log) }
 noted s (sender.delivered n) = record { copy = []; log = latest (ending delivered) (s .log) }
 noted s (sender.failed n) = record { copy = []; log = latest (ending failed) (s .log) }
 noted s (sender.refused r) = s
@@ -163,7 +184,7 @@ begins b code m gap h r (sender.copy body ∷ xs) =
       reader = r;
       sheet = noting (record { copy = []; log = opened code m gap ∷ b .sheet .log }) (sender.copy body ∷ xs);
       handed = handing (h .told) (b .handed);
-      stray = b .stray ++ flatMap answerBytes (h .told);
+      stray = b .stray ++ flatMap (λ (bytes : List ℕ). bytes) (hubAnswers (h .told));
     }
 begins b code m gap h r (sender.delivered n ∷ xs) = b
 begins b code m gap h r (sender.failed n ∷ xs) = b
@@ -185,7 +206,7 @@ inTime (x ∷ xs) d = d
 
 unfoldable pub readerHears : Bench → Try → List joiner.Output → Done ReaderState Output
 readerHears b t told =
-    let d = through readerStep (b .reader) (flatMap (λ (o : joiner.Output). arrives (t .coming) (answerBytes o)) told) in
+    let d = through readerStep (b .reader) (flatMap (arrives (t .coming)) (hubAnswers told)) in
     inTime (sentOf (d .told)) d
 
 unfoldable pub tried : Bench → Try → Done HubState joiner.Output → Done ReaderState Output → Bench

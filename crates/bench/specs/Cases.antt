@@ -1,4 +1,4 @@
--- Document 01, 'Cases for one table': the ten cases, as one statement over the definitions.
+-- §17, the ten cases, as one statement over the definitions.
 use Prim.Native.Nat.{ℕ}
 use mathlib.Core.List.{List, [], _∷_, _++_, map}
 use mathlib.Core.Path.{_≡_}
@@ -6,6 +6,7 @@ use lib.ListN.{length, replicate}
 use Rattle.words.specs.Machine.{through}
 use Rattle.packet.specs.Opcodes.{host, reader}
 use Rattle.packet.specs.Packet.{seal, replyBody}
+use Rattle.packet.specs.Refusals.{numberOf}
 use Rattle.packet.specs.declared.Refusal.the-variants.{Start}
 use Rattle.packet.specs.declared.Reply.the-variants.{Ack, Nak}
 use Rattle.framer.specs.declared.Event.{Event}
@@ -52,9 +53,9 @@ pub record TenCases : Type 0 where
   pub reader-nak : seal (replyBody reader (Nak 6)) ≡ 0x05 ∷ 0xD1 ∷ 0x00 ∷ 0x00 ∷ 0x06 ∷ 0xFF ∷ 0x24 ∷ []
   -- 5 and 6: one piece and the empty message, as the sender writes them, and what the hub hands out.
   pub one-piece : map seal (packetsOf 0x1B (0x38 ∷ [])) ≡ onePiece ∷ []
-  pub one-piece-joined : through hub.hubStep hub.switchedOn (line onePiece) .told ≡ joiner.handed 0x1B (0x38 ∷ []) ∷ []
+  pub one-piece-joined : through hub.hubStep hub.switchedOn (line onePiece) .told ≡ joiner.acknowledged (joiner.handed 0x1B (0x38 ∷ []))
   pub empty-message : map seal (packetsOf 0x1B []) ≡ emptyMessage ∷ []
-  pub empty-message-joined : through hub.hubStep hub.switchedOn (line emptyMessage) .told ≡ joiner.handed 0x1B [] ∷ []
+  pub empty-message-joined : through hub.hubStep hub.switchedOn (line emptyMessage) .told ≡ joiner.acknowledged (joiner.handed 0x1B [])
   -- 7 and 8: the trigger set, accepted, and then asked for.
   pub trigger-set : readerTells (line triggerSet) ≡ switched withTrigger ∷ answered (seal (replyBody reader Ack)) ∷ []
   pub trigger-asked :
@@ -66,3 +67,4 @@ pub record TenCases : Type 0 where
   -- 10: 4,096 bytes are 17 pieces, the last of 96; 4,097 are refused by number 11, whatever the sender does.
   pub longest : (m : List ℕ) → length m ≡ 4096 → map length (piecesOf m) ≡ replicate 16 250 ++ (96 ∷ [])
   pub too-long : (s : sender.SenderState) (code : ℕ) (m : List ℕ) → length m ≡ 4097 → sender.startStep s code m ≡ record { next = s; told = sender.refused Start ∷ [] }
+  pub too-long-number : numberOf Start ≡ 11

@@ -1,18 +1,18 @@
 -- Demand 3: what must hold of the log and of the messages handed out at the end of every run of the bench.
-use Prim.Native.Nat.{ℕ, _≤_}
+use Prim.Native.Nat.{ℕ, _+_, _≤_}
 use mathlib.Core.Bool.{Bool, true, false, not}
 use mathlib.Core.List.{List, [], _∷_, _++_, map}
 use mathlib.Core.Path.{_≡_}
-use lib.ListN.{length, drop}
+use lib.ListN.{length, drop, replicate}
 use Rattle.words.specs.Lists.{both, sameBytes, Each}
-use Rattle.packet.specs.Packet.{checkOf}
+use Rattle.packet.specs.Packet.{checkOf, seal, marked}
 use Rattle.packet.specs.declared.Head.{Head}
 use Rattle.packet.specs.declared.Checked.the-variants as checked
 use Rattle.framer.specs.Framer.{hearing}
 use Rattle.sender.specs.Sender.{waits}
 use Rattle.sender.specs.Pieces.{packetsOf}
 use Rattle.reader.specs.Reader.{ReaderState}
-use Rattle.bench.specs.Bench.{Fate, whole, lost, spoiled, Try, Tried, delivered, failed, Begun, Message, Bench}
+use Rattle.bench.specs.Bench.{Fate, whole, lost, spoiled, Try, Tried, Ending, delivered, failed, out, Begun, Message, Bench}
 
 -- The reader at the start: nothing out, nothing begun on its line and not deaf. Its parameters are any; handshaking need not be on.
 pub record Ready (r : ReaderState) : Type 0 where
@@ -57,9 +57,22 @@ pub data HandsOut : List Begun → List Message → Type 0 where
   handed : {m : Begun} {ms : List Begun} {x : Message} {xs : List Message} → x ≡ messageOf m → HandsOut ms xs → HandsOut (m ∷ ms) (x ∷ xs)
   passed-over : {m : Begun} {ms : List Begun} {xs : List Message} → (m .ending ≡ delivered → ⊥) → HandsOut ms xs → HandsOut (m ∷ ms) xs
 
--- No packet is sent more than three times.
-abbrev pub Thrice : Tried → Type 0
-Thrice p = length (p .tries) ≤ 3
+-- No packet is sent more than three times. Its copies, the latest first: at most two with the resend mark, and the first one written, which
+-- is the packet without it. All of them were tried, but for so many that still wait.
+pub record Thrice (waiting : ℕ) (p : Tried) : Type 0 where
+  pub again : ℕ
+  pub few : again ≤ 2
+  pub copies-are : p .copies ≡ replicate again (seal (marked (p .body))) ++ (seal (p .body) ∷ [])
+  pub tried : length (p .copies) ≡ waiting + length (p .tries)
+
+-- While a message is out, one copy waits, of its latest packet.
+unfoldable pub waitingAt : Ending → ℕ
+waitingAt delivered = 0
+waitingAt failed = 0
+waitingAt out = 1
+
+pub data EachThrice (x : Ending) : List Tried → Type 0 where
+  from-latest : {p : Tried} {ps : List Tried} → Thrice (waitingAt x) p → Each (Thrice 0) ps → EachThrice x (p ∷ ps)
 
 -- Spoiled or lost, going or coming back.
 unfoldable pub arrived : Fate → Bool
@@ -75,7 +88,7 @@ pub data LostOut : List Tried → Type 0 where
   three : {p : Tried} {ps : List Tried} → length (p .tries) ≡ 3 → Each Bad (p .tries) → LostOut (p ∷ ps)
 
 pub record Honest (m : Begun) : Type 0 where
-  pub thrice : Each Thrice (m .packets)
+  pub thrice : EachThrice (m .ending) (m .packets)
   pub lost-out : m .ending ≡ failed → LostOut (m .packets)
 
 -- Besides, the packets sent are the message's, in order, and all of them where it was delivered.

@@ -1,6 +1,5 @@
 pub mod Bench
 pub mod Cases
 pub mod Delivery
-pub mod Refused
 pub mod Stories
 pub mod Whole

@@ -18,13 +18,26 @@ use Rattle.bench.specs.Bench.{whole, lost, spoiled, gapAfter, Tried, End
 unfoldable pub runs : List Move → Bench
 runs moves = played (bench hub.switchedOn (whole-end.switchedOn defaults)) moves
 
--- What became of each message: its ending, and how many tries each of its packets had, the latest first.
+-- What became of each message: its ending, and how many copies and tries each of its packets had, the latest first.
 pub record Fared : Type 0 where
   pub ending : Ending
+  pub copies : List ℕ
   pub tries : List ℕ
 
+unfoldable pub faredOne : Begun → Fared
+faredOne m =
+    record {
+      ending = m .ending;
+      copies = map (λ (p : Tried). length (p .copies)) (m .packets);
+      tries = map (λ (p : Tried). length (p .tries)) (m .packets);
+    }
+
 unfoldable pub fared : Bench → List Fared
-fared b = map (λ (m : Begun). record { ending = m .ending; tries = map (λ (p : Tried). length (p .tries)) (m .packets) }) (b .sheet .log)
+fared b = map faredOne (b .sheet .log)
+
+-- The bytes of every copy that was written, the latest first.
+unfoldable pub allCopies : Bench → List (List ℕ)
+allCopies b = flatMap (λ (m : Begun). flatMap (λ (p : Tried). p .copies) (m .packets)) (b .sheet .log)
 
 abbrev pub arrivesWhole : Move
 arrivesWhole = attempt (record { going = whole; coming = whole })
@@ -55,6 +68,14 @@ sample8 = start 0x1B card ∷ arrivesWhole ∷ answerLost ∷ arrivesWhole ∷ [
 -- It must be handed out once, with its one 8.
 abbrev pub sample8Handed : List Message
 sample8Handed = record { code = 0x1B; bytes = card } ∷ []
+
+-- What the reader writes, the latest first: the 8 with the resend mark, the 8, and the 250 characters before it.
+abbrev pub sample8Copies : List (List ℕ)
+sample8Copies =
+    (0x06 ∷ 0xF3 ∷ 0x00 ∷ 0x01 ∷ 0x1B ∷ 0x38 ∷ 0xFE ∷ 0xB3 ∷ [])
+    ∷ (0x06 ∷ 0xF3 ∷ 0x00 ∷ 0x00 ∷ 0x1B ∷ 0x38 ∷ 0xFE ∷ 0xB4 ∷ [])
+    ∷ ((0xFF ∷ 0xF3 ∷ 0x00 ∷ 0x02 ∷ 0x1B ∷ replicate 250 0x41) ++ (0xBE ∷ 0x77 ∷ []))
+    ∷ []
 
 -- ---- every kind of fate
 
@@ -87,4 +108,6 @@ barredTells = through hub.hubStep hub.switchedOn barredLine .told
 
 -- What it must tell: refused, its resend and a fresh copy refused too, and behind the message gap the same packet is a message.
 abbrev pub barredExpected : List joiner.Output
-barredExpected = joiner.added ∷ joiner.refused Barred ∷ joiner.refused Barred ∷ joiner.refused Barred ∷ joiner.handed 0x1C (0x39 ∷ []) ∷ []
+barredExpected =
+    joiner.acknowledged joiner.added
+    ++ (joiner.refusing Barred ++ (joiner.refusing Barred ++ (joiner.refusing Barred ++ joiner.acknowledged (joiner.handed 0x1C (0x39 ∷ [])))))

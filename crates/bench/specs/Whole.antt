@@ -1,4 +1,4 @@
--- Document 01, the parts on the bench: a message goes from the sender to the hub, and every copy arrives whole.
+-- §14: a message goes from the sender to the hub, and every copy arrives whole.
 use Prim.Native.Nat.{ℕ, _-_}
 use mathlib.Core.Path.{_≡_}
 use mathlib.Core.Bool.{false}
@@ -11,9 +11,10 @@ use Rattle.packet.specs.declared.Reply.the-variants.{Ack}
 use Rattle.framer.specs.Framer.{hearing}
 use Rattle.framer.specs.declared.Event.{Event}
 use Rattle.framer.specs.declared.Event.the-variants.{Byte, CharacterGap}
-use Rattle.hub.specs.Joiner.{none, Output, added, handed}
-use Rattle.hub.specs.Hub.{HubState, answerBytes}
+use Rattle.hub.specs.Joiner.{none, Output, added, handed, acknowledged}
+use Rattle.hub.specs.Hub.{HubState}
 use Rattle.sender.specs.Pieces.{packetsOf}
+use Rattle.bench.specs.Bench.{hubAnswers}
 
 -- A copy of a packet on the line: its bytes, and what comes behind them.
 unfoldable pub copyThen : List Event → List ℕ → List Event
@@ -33,12 +34,12 @@ pub record Rests (hub : HubState) : Type 0 where
   pub free : hub .core .barred ≡ false
   pub empty : hub .core .gathered ≡ none
 
--- Each packet but the last is added, and at the last exactly this message is handed out.
+-- Each packet but the last is added, and at the last exactly this message is handed out; each is acknowledged.
 unfoldable pub wholeTold : ℕ → List ℕ → List Output
-wholeTold code m = replicate (length (packetsOf code m) - 1) added ++ (handed code m ∷ [])
+wholeTold code m = flatMap acknowledged (replicate (length (packetsOf code m) - 1) added ++ (handed code m ∷ []))
 
 -- A run of the hub that takes this message in: what it tells, an ACK for each packet, and the hub at rest again.
 pub record TakesIn (code : ℕ) (m : List ℕ) (run : Done HubState Output) : Type 0 where
   pub told-is : run .told ≡ wholeTold code m
-  pub answers : map answerBytes (run .told) ≡ replicate (length (packetsOf code m)) (seal (replyBody host Ack))
+  pub answers : hubAnswers (run .told) ≡ replicate (length (packetsOf code m)) (seal (replyBody host Ack))
   pub rests : Rests (run .next)

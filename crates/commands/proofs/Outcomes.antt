@@ -1,23 +1,24 @@
 -- What can come of a command, each outcome with what it needs: the theorems here and of the whole end go by these cases. Assumes nothing.
-use Prim.Native.Nat.{ℕ, _%_, _≤_}
+use Prim.Native.Nat.{ℕ, _≤_}
 use mathlib.Core.Path.{_≡_, refl}
 use mathlib.Core.Bool.{Bool, true, false}
-use mathlib.Core.List.{List, []}
+use mathlib.Core.List.{List}
 use native.Mathlib.Omega.{arith}
 use lib.Dec.{eqb}
 use lib.ListN.{getD, drop}
 use Rattle.words.specs.Lists.{pick}
 use Rattle.words.proofs.Lists.{never}
-use Rattle.packet.specs.Opcodes.{paramSend, paramRequest, paramDefaults, startSession, stopSession, scanEnable, scanDisable, aimOn, ledOn, ledOff, beep}
 use Rattle.packet.specs.Packet.{permanentBit}
 use Rattle.packet.specs.Refusals.{numberOf, causeOf}
 use Rattle.packet.specs.declared.Refusal.{Refusal}
 use Rattle.packet.specs.declared.Refusal.the-variants as refusal
 use Rattle.table.specs.Table.{Values, Reading, wrongLength, pairs, readPairs, Outcome as Settled, done, refused as unsettled, setPairs, changed, defaults, allAllowed}
 use Rattle.commands.specs.Beeps.{beepAllowed, sendBeepAllowed}
-use Rattle.commands.specs.Commands.{DeviceState, withLed, Acted, denied, acted, isKnown, lengthAllowed, afterSend, sendCommand, beepCommand, ledCommand, startCommand, scanCommand, bareCommand, command, judged}
+use Rattle.commands.specs.Commands.{DeviceState, Acted, denied, acted, lengthAllowed, afterSend, sendCommand, beepCommand, effect, judged}
+use Rattle.commands.specs.declared.Command.{Command}
+use Rattle.commands.specs.declared.Command.the-variants.{ParamSend, ParamRequest, ParamDefaults, StartSession, StopSession, Beep, LedOn, LedOff, ScanEnable, ScanDisable, AimOn, AimOff}
 
--- Denied by number 6 to 9 and answered by NAK; or done, with a table that is the old one, the defaults, or the old one with accepted settings.
+-- Denied by number 7 to 9 and answered by NAK; or done, with a table that is the old one, the defaults, or the old one with accepted settings.
 pub data Does (d : DeviceState) : Acted → Type 0 where
   denies : {r : Refusal} → 4 ≤ numberOf r → (causeOf r ≡ 0 → ⊥) → Does d (denied r)
   keeps : {next : DeviceState} {rows : List (List ℕ)} → next .values ≡ d .values → Does d (acted next rows)
@@ -44,34 +45,27 @@ module _ (d : DeviceState) where
   settles forever reading code (done v) e = sets forever reading e
   settles forever reading code (unsettled r) e = let k = denial forever reading (d .values) e in denies (k .0) (k .1)
 
-  light-keeps : (b on : Bool) → Does d (acted (pick b (withLed d on) d) [])
-  light-keeps true on = keeps refl
-  light-keeps false on = keeps refl
+  no : Does d (denied refusal.Beep)
+  no = denies {r = refusal.Beep} (omega arith) (λ z. omega arith)
 
-  bare-does : (o : ℕ) → Does d (bareCommand d o)
-  unfolding bareCommand startCommand scanCommand
-  bare-does o =
-      does-test (eqb o paramDefaults) (resets refl)
-      (does-test (eqb o startSession) (keeps refl)
-      (does-test (eqb o stopSession) (keeps refl)
-      (does-test (eqb o scanEnable) (keeps refl)
-      (does-test (eqb o scanDisable) (keeps refl) (does-test (eqb o aimOn) (keeps refl) (keeps refl))))))
-
-  pub does : (o status : ℕ) (bytes : List ℕ) → Does d (command d o status bytes)
-  unfolding command sendCommand beepCommand ledCommand
-  does o status bytes =
-      let no : Does d (denied refusal.Beep) = denies {r = refusal.Beep} (omega arith) (λ z. omega arith) in
-      let code = getD bytes 0 0 in
+  pub does : (k : Command) (status : ℕ) (bytes : List ℕ) → Does d (effect d k status bytes)
+  unfolding effect sendCommand beepCommand
+  does ParamSend status bytes =
       let forever = eqb (permanentBit status) 1 in
       let reading = readPairs (drop 1 bytes) in
-      does-test (eqb o paramSend) (does-test (sendBeepAllowed code) (settles forever reading code (setPairs forever reading (d .values)) refl) no)
-      (does-test (eqb o paramRequest) (keeps refl)
-      (does-test (eqb o beep) (does-test (beepAllowed code) (keeps refl) no)
-      (does-test (eqb o ledOn) (light-keeps (eqb (code % 2) 1) true) (does-test (eqb o ledOff) (light-keeps (eqb (code % 2) 1) false) (bare-does o)))))
+      does-test (sendBeepAllowed (getD bytes 0 0)) (settles forever reading (getD bytes 0 0) (setPairs forever reading (d .values)) refl) no
+  does ParamRequest status bytes = keeps refl
+  does ParamDefaults status bytes = resets refl
+  does StartSession status bytes = keeps refl
+  does StopSession status bytes = keeps refl
+  does Beep status bytes = does-test (beepAllowed (getD bytes 0 0)) (keeps refl) no
+  does LedOn status bytes = keeps refl
+  does LedOff status bytes = keeps refl
+  does ScanEnable status bytes = keeps refl
+  does ScanDisable status bytes = keeps refl
+  does AimOn status bytes = keeps refl
+  does AimOff status bytes = keeps refl
 
-  pub judged-does : (o status : ℕ) (bytes : List ℕ) → Does d (judged d o status bytes)
+  pub judged-does : (k : Command) (status : ℕ) (bytes : List ℕ) → Does d (judged d k status bytes)
   unfolding judged
-  judged-does o status bytes =
-      does-test (isKnown o)
-      (does-test (lengthAllowed o bytes) (does o status bytes) (denies {r = refusal.Data} (omega arith) (λ z. omega arith)))
-      (denies {r = refusal.Opcode} (omega arith) (λ z. omega arith))
+  judged-does k status bytes = does-test (lengthAllowed k bytes) (does k status bytes) (denies {r = refusal.Data} (omega arith) (λ z. omega arith))

@@ -1,5 +1,5 @@
--- Table 2-12: duration, pitch and number of beeps for each beep code, and which codes are allowed. Durations and pitches are numbered as
--- the table first uses them. Durations: 0 short, 1 long, 2 fast warble, 3 slow warble, 4 to 7 mix 1 to mix 4, 8 high click, 9 low click.
+-- §13: duration, pitch and number of beeps for each beep code, and which codes are allowed. Durations and pitches are numbered as
+-- the table there first uses them. Durations: 0 short, 1 long, 2 fast warble, 3 slow warble, 4 to 7 mix 1 to mix 4, 8 high click, 9 low click.
 -- Pitches: 0 high, 1 low, 2 high-low-high-low, 3 high-low, 4 low-high, 5 high-low-high, 6 low-high-low, 7 high-high-low-low,
 -- 8 high-high-high, 9 low click. The codes above the limit stand here as the table has them.
 use Prim.Native.Nat.{ℕ}

@@ -1,70 +1,84 @@
--- Document 01, 'The reader's commands'.
+-- §11: the reader's commands by name, the data that each takes, and what it does.
 use Prim.Native.Nat.{ℕ, _%_}
 use mathlib.Core.Bool.{Bool, true, false}
 use mathlib.Core.List.{List, [], _∷_}
-use lib.Dec.{eqb, ltb}
+use lib.Dec.{eqb}
 use lib.ListN.{length, getD, drop}
 use Rattle.words.specs.Lists.{pick, both, either}
-use Rattle.packet.specs.Opcodes.{paramSend, paramRequest, paramDefaults, aimOff, aimOn, startSession, stopSession, beep, ledOn, ledOff, scanEnable, scanDisable}
+use Rattle.packet.specs.Opcodes as opcode
 use Rattle.packet.specs.Packet.{permanentBit}
 use Rattle.packet.specs.declared.Refusal.{Refusal}
-use Rattle.packet.specs.declared.Refusal.the-variants.{Opcode, Data, Beep}
-use Rattle.table.specs.Table.{Values, Reading, wrongLength, pairs, readPairs, Outcome, done, refused, setPairs, defaults}
+use Rattle.packet.specs.declared.Refusal.the-variants as refusal
+use Rattle.table.specs.Table.{Values, readPairs, sendLengthAllowed, requestLengthAllowed, Outcome, done, refused, setPairs, defaults}
 use Rattle.commands.specs.Beeps.{beepAllowed, sendBeepAllowed, rowOf}
+use Rattle.commands.specs.declared.Command.{Command}
+use Rattle.commands.specs.declared.Command.the-variants.{ParamSend, ParamRequest, ParamDefaults, StartSession, StopSession, Beep, LedOn, LedOff, ScanEnable, ScanDisable, AimOn, AimOff}
+use Rattle.commands.specs.declared.Named.{Named}
+use Rattle.commands.specs.declared.Named.the-variants.{Unknown, Known}
+use Rattle.commands.specs.declared.Switches.{Switches}
 
--- The parameter values, and what the commands switch: scanning, session, aim, LED.
+-- The parameter values, and what the commands switch.
 pub record DeviceState : Type 0 where
   pub values : Values
-  pub enabled : Bool
-  pub session : Bool
-  pub aim : Bool
-  pub led : Bool
+  pub switches : Switches
 
 -- Scanning is enabled at power-up; session, aim and LED are off.
 abbrev pub fresh : Values → DeviceState
-fresh v = record { values = v; enabled = true; session = false; aim = false; led = false }
-
-abbrev pub withValues : DeviceState → Values → DeviceState
-withValues d v = record { values = v; enabled = d .enabled; session = d .session; aim = d .aim; led = d .led }
-
-abbrev pub withSession : DeviceState → Bool → DeviceState
-withSession d s = record { values = d .values; enabled = d .enabled; session = s; aim = d .aim; led = d .led }
-
-abbrev pub withAim : DeviceState → Bool → DeviceState
-withAim d a = record { values = d .values; enabled = d .enabled; session = d .session; aim = a; led = d .led }
-
-abbrev pub withLed : DeviceState → Bool → DeviceState
-withLed d l = record { values = d .values; enabled = d .enabled; session = d .session; aim = d .aim; led = l }
+fresh v = record { values = v; switches = record { scanning = true; session = false; aim = false; led = false } }
 
 -- ---- opcodes and data lengths
 
-unfoldable pub isBare : ℕ → Bool
-isBare o =
-    either (eqb o paramDefaults)
-    (either (eqb o startSession)
-    (either (eqb o stopSession)
-    (either (eqb o scanEnable) (either (eqb o scanDisable) (either (eqb o aimOn) (eqb o aimOff))))))
+unfoldable pub namedBy : ℕ → Named
+namedBy o =
+    pick (eqb o opcode.paramSend) (Known ParamSend)
+    (pick (eqb o opcode.paramRequest) (Known ParamRequest)
+    (pick (eqb o opcode.paramDefaults) (Known ParamDefaults)
+    (pick (eqb o opcode.startSession) (Known StartSession)
+    (pick (eqb o opcode.stopSession) (Known StopSession)
+    (pick (eqb o opcode.beep) (Known Beep)
+    (pick (eqb o opcode.ledOn) (Known LedOn)
+    (pick (eqb o opcode.ledOff) (Known LedOff)
+    (pick (eqb o opcode.scanEnable) (Known ScanEnable)
+    (pick (eqb o opcode.scanDisable) (Known ScanDisable)
+    (pick (eqb o opcode.aimOn) (Known AimOn) (pick (eqb o opcode.aimOff) (Known AimOff) Unknown)))))))))))
 
-unfoldable pub isOneByte : ℕ → Bool
-isOneByte o = either (eqb o beep) (either (eqb o ledOn) (eqb o ledOff))
+unfoldable pub lengthAllowed : Command → List ℕ → Bool
+lengthAllowed ParamSend d = sendLengthAllowed d
+lengthAllowed ParamRequest d = requestLengthAllowed d
+lengthAllowed ParamDefaults d = eqb (length d) 0
+lengthAllowed StartSession d = eqb (length d) 0
+lengthAllowed StopSession d = eqb (length d) 0
+lengthAllowed Beep d = eqb (length d) 1
+lengthAllowed LedOn d = eqb (length d) 1
+lengthAllowed LedOff d = eqb (length d) 1
+lengthAllowed ScanEnable d = eqb (length d) 0
+lengthAllowed ScanDisable d = eqb (length d) 0
+lengthAllowed AimOn d = eqb (length d) 0
+lengthAllowed AimOff d = eqb (length d) 0
 
-unfoldable pub isKnown : ℕ → Bool
-isKnown o = either (eqb o paramSend) (either (eqb o paramRequest) (either (isOneByte o) (isBare o)))
+-- ---- the switches
 
-unfoldable pub isRead : Reading → Bool
-isRead wrongLength = false
-isRead (pairs ps) = true
+-- START_SESSION while scanning is disabled is ACKed and starts none; a session that is on stays on.
+unfoldable pub sessionStarted : Switches → Switches
+sessionStarted s = record { scanning = s .scanning; session = either (s .session) (s .scanning); aim = s .aim; led = s .led }
 
--- PARAM_SEND: a beep byte, then pairs; PARAM_REQUEST 1 to 251, which is all that a packet holds; BEEP, LED_ON, LED_OFF 1; none for the
--- others. Of an opcode that is not known none is asked too: 6 comes before 7, so it does not matter.
-unfoldable pub lengthAllowed : ℕ → List ℕ → Bool
-lengthAllowed o d =
-    pick (eqb o paramSend) (both (ltb 0 (length d)) (isRead (readPairs (drop 1 d))))
-    (pick (eqb o paramRequest) (ltb 0 (length d)) (pick (isOneByte o) (eqb (length d) 1) (eqb (length d) 0)))
+unfoldable pub sessionStopped : Switches → Switches
+sessionStopped s = record { scanning = s .scanning; session = false; aim = s .aim; led = s .led }
+
+-- SCAN_DISABLE ends a session.
+unfoldable pub scanningTo : Bool → Switches → Switches
+scanningTo on s = record { scanning = on; session = both on (s .session); aim = s .aim; led = s .led }
+
+unfoldable pub aimTo : Bool → Switches → Switches
+aimTo on s = record { scanning = s .scanning; session = s .session; aim = on; led = s .led }
+
+-- LED looks at bit 0 only.
+unfoldable pub ledTo : Bool → ℕ → Switches → Switches
+ledTo on bits s = record { scanning = s .scanning; session = s .session; aim = s .aim; led = pick (eqb (bits % 2) 1) on (s .led) }
 
 -- ---- what a command does
 
--- Refused, or acted on: the device afterwards, and the rows of Table 2-12 that are reported.
+-- Denied, or acted on: the device afterwards, and the rows of §13 that are reported.
 pub data Acted : Type 0 where
   denied : Refusal → Acted
   acted : DeviceState → List (List ℕ) → Acted
@@ -73,46 +87,37 @@ unfoldable pub reported : ℕ → List (List ℕ)
 reported code = pick (beepAllowed code) (rowOf code ∷ []) []
 
 unfoldable pub afterSend : DeviceState → ℕ → Outcome → Acted
-afterSend d code (done v) = acted (withValues d v) (reported code)
+afterSend d code (done v) = acted (record { values = v; switches = d .switches }) (reported code)
 afterSend d code (refused r) = denied r
 
 unfoldable pub sendCommand : DeviceState → ℕ → List ℕ → Acted
 sendCommand d status bytes =
     pick (sendBeepAllowed (getD bytes 0 0))
     (afterSend d (getD bytes 0 0) (setPairs (eqb (permanentBit status) 1) (readPairs (drop 1 bytes)) (d .values)))
-    (denied Beep)
+    (denied refusal.Beep)
 
-unfoldable pub beepCommand : DeviceState → List ℕ → Acted
-beepCommand d bytes = pick (beepAllowed (getD bytes 0 0)) (acted d (reported (getD bytes 0 0))) (denied Beep)
+unfoldable pub beepCommand : DeviceState → ℕ → Acted
+beepCommand d code = pick (beepAllowed code) (acted d (reported code)) (denied refusal.Beep)
 
--- LED looks at bit 0 only.
-unfoldable pub ledCommand : DeviceState → Bool → List ℕ → Acted
-ledCommand d on bytes = acted (pick (eqb (getD bytes 0 0 % 2) 1) (withLed d on) d) []
+-- Only the switches change.
+abbrev pub switching : DeviceState → Switches → Acted
+switching d s = acted (record { values = d .values; switches = s }) []
 
--- START_SESSION while disabled is ACKed and starts none; a session that is on stays on.
-unfoldable pub startCommand : DeviceState → Acted
-startCommand d = acted (withSession d (either (d .session) (d .enabled))) []
+-- What it does where the length of its data is right: 8 and 9, or acted on.
+unfoldable pub effect : DeviceState → Command → ℕ → List ℕ → Acted
+effect d ParamSend status bytes = sendCommand d status bytes
+effect d ParamRequest status bytes = acted d []
+effect d ParamDefaults status bytes = acted (record { values = defaults; switches = d .switches }) []
+effect d StartSession status bytes = switching d (sessionStarted (d .switches))
+effect d StopSession status bytes = switching d (sessionStopped (d .switches))
+effect d Beep status bytes = beepCommand d (getD bytes 0 0)
+effect d LedOn status bytes = switching d (ledTo true (getD bytes 0 0) (d .switches))
+effect d LedOff status bytes = switching d (ledTo false (getD bytes 0 0) (d .switches))
+effect d ScanEnable status bytes = switching d (scanningTo true (d .switches))
+effect d ScanDisable status bytes = switching d (scanningTo false (d .switches))
+effect d AimOn status bytes = switching d (aimTo true (d .switches))
+effect d AimOff status bytes = switching d (aimTo false (d .switches))
 
--- SCAN_DISABLE ends a session.
-unfoldable pub scanCommand : DeviceState → Bool → Acted
-scanCommand d on = acted (record { values = d .values; enabled = on; session = both on (d .session); aim = d .aim; led = d .led }) []
-
--- AIM_OFF is the last that is left: only known opcodes get here.
-unfoldable pub bareCommand : DeviceState → ℕ → Acted
-bareCommand d o =
-    pick (eqb o paramDefaults) (acted (withValues d defaults) [])
-    (pick (eqb o startSession) (startCommand d)
-    (pick (eqb o stopSession) (acted (withSession d false) [])
-    (pick (eqb o scanEnable) (scanCommand d true)
-    (pick (eqb o scanDisable) (scanCommand d false) (pick (eqb o aimOn) (acted (withAim d true) []) (acted (withAim d false) []))))))
-
-unfoldable pub command : DeviceState → ℕ → ℕ → List ℕ → Acted
-command d o status bytes =
-    pick (eqb o paramSend) (sendCommand d status bytes)
-    (pick (eqb o paramRequest) (acted d [])
-    (pick (eqb o beep) (beepCommand d bytes)
-    (pick (eqb o ledOn) (ledCommand d true bytes) (pick (eqb o ledOff) (ledCommand d false bytes) (bareCommand d o)))))
-
--- 6 and 7, then 8 and 9.
-unfoldable pub judged : DeviceState → ℕ → ℕ → List ℕ → Acted
-judged d o status bytes = pick (isKnown o) (pick (lengthAllowed o bytes) (command d o status bytes) (denied Data)) (denied Opcode)
+-- 7, then 8 and 9.
+unfoldable pub judged : DeviceState → Command → ℕ → List ℕ → Acted
+judged d k status bytes = pick (lengthAllowed k bytes) (effect d k status bytes) (denied refusal.Data)

@@ -1,4 +1,4 @@
--- What the calls of the commands promise: whether opcode and data are taken, the device afterwards, and what is told of it.
+-- What the calls of the commands promise: which command an opcode names, whether its data is taken, the device afterwards, and what is told of it.
 use Prim.Native.Nat.{ℕ}
 use mathlib.Core.Bool.{Bool, true}
 use mathlib.Core.List.{List, [], _∷_}
@@ -7,7 +7,10 @@ use lib.ListN.{getD}
 use Rattle.table.specs.Promises.{valuesOf, tableOf}
 use Rattle.table.specs.declared.Table.{Table}
 use Rattle.commands.specs.Beeps.{sendBeepAllowed}
-use Rattle.commands.specs.Commands.{DeviceState, Acted, denied, acted, isKnown, isOneByte, isBare, lengthAllowed, reported, beepCommand, ledCommand}
+use Rattle.commands.specs.Commands.{DeviceState, Acted, denied, acted, namedBy, lengthAllowed, sessionStarted, sessionStopped, scanningTo, aimTo, ledTo, reported}
+use Rattle.commands.specs.declared.Command.{Command}
+use Rattle.commands.specs.declared.Named.{Named}
+use Rattle.commands.specs.declared.Switches.{Switches}
 use Rattle.commands.specs.declared.Beep.{Beep}
 use Rattle.commands.specs.declared.Beep.the-variants as beep
 use Rattle.commands.specs.declared.Verdict.the-variants as verdict
@@ -17,14 +20,14 @@ use Rattle.commands.specs.declared.Commanded.{Commanded}
 -- ---- what a control value stands for
 
 abbrev pub deviceOf : Device → DeviceState
-deviceOf d = record { values = valuesOf (d .table); enabled = d .enabled; session = d .session; aim = d .aim; led = d .led }
+deviceOf d = record { values = valuesOf (d .table); switches = d .switches }
 
 abbrev pub deviceFrom : DeviceState → Device
-deviceFrom d = record { table = tableOf (d .values); enabled = d .enabled; session = d .session; aim = d .aim; led = d .led }
+deviceFrom d = record { table = tableOf (d .values); switches = d .switches }
 
 -- ---- the answers that are enums
 
--- A row of Table 2-12 as it is reported.
+-- A row of §13 as it is reported.
 unfoldable pub beepOf : List (List ℕ) → Beep
 beepOf [] = beep.Silent
 beepOf (row ∷ rows) = beep.Row (getD row 0 0) (getD row 1 0) (getD row 2 0)
@@ -36,11 +39,11 @@ commandedOf d (acted next rows) = record { device = deviceFrom next; verdict = v
 
 -- ---- promises
 
-pub record IsKnown (opcode : ℕ) (r : Bool) : Type 0 where
-  pub is : r ≡ isKnown opcode
+pub record Names (opcode : ℕ) (r : Named) : Type 0 where
+  pub is : r ≡ namedBy opcode
 
-pub record LengthAllowed (opcode : ℕ) (carried : List ℕ) (r : Bool) : Type 0 where
-  pub is : r ≡ lengthAllowed opcode carried
+pub record LengthAllowed (command : Command) (carried : List ℕ) (r : Bool) : Type 0 where
+  pub is : r ≡ lengthAllowed command carried
 
 -- A command that does what act says.
 pub record Commands (d : Device) (act : Acted) (r : Commanded) : Type 0 where
@@ -48,11 +51,9 @@ pub record Commands (d : Device) (act : Acted) (r : Commanded) : Type 0 where
 
 -- ---- the functions inside, each against its own level of the definition
 
-pub record IsOneByte (opcode : ℕ) (r : Bool) : Type 0 where
-  pub is : r ≡ isOneByte opcode
-
-pub record IsBare (opcode : ℕ) (r : Bool) : Type 0 where
-  pub is : r ≡ isBare opcode
+-- Data of a length that the command takes.
+pub record Fit (command : Command) (carried : List ℕ) : Type 0 where
+  pub is : lengthAllowed command carried ≡ true
 
 pub record SendBeepAllowed (code : ℕ) (r : Bool) : Type 0 where
   pub is : r ≡ sendBeepAllowed code
@@ -60,28 +61,21 @@ pub record SendBeepAllowed (code : ℕ) (r : Bool) : Type 0 where
 pub record Reports (code : ℕ) (r : Beep) : Type 0 where
   pub is : r ≡ beepOf (reported code)
 
-pub record WithTable (d : Device) (t : Table) (r : Device) : Type 0 where
-  pub is : r ≡ record { table = t; enabled = d .enabled; session = d .session; aim = d .aim; led = d .led }
+pub record StartsSession (s r : Switches) : Type 0 where
+  pub is : r ≡ sessionStarted s
 
-pub record WithSession (d : Device) (s : Bool) (r : Device) : Type 0 where
-  pub is : r ≡ record { table = d .table; enabled = d .enabled; session = s; aim = d .aim; led = d .led }
+pub record StopsSession (s r : Switches) : Type 0 where
+  pub is : r ≡ sessionStopped s
 
-pub record WithScanning (d : Device) (on s : Bool) (r : Device) : Type 0 where
-  pub is : r ≡ record { table = d .table; enabled = on; session = s; aim = d .aim; led = d .led }
+pub record Scans (s : Switches) (on : Bool) (r : Switches) : Type 0 where
+  pub is : r ≡ scanningTo on s
 
-pub record WithAim (d : Device) (a : Bool) (r : Device) : Type 0 where
-  pub is : r ≡ record { table = d .table; enabled = d .enabled; session = d .session; aim = a; led = d .led }
+pub record Aims (s : Switches) (on : Bool) (r : Switches) : Type 0 where
+  pub is : r ≡ aimTo on s
 
-pub record WithLed (d : Device) (l : Bool) (r : Device) : Type 0 where
-  pub is : r ≡ record { table = d .table; enabled = d .enabled; session = d .session; aim = d .aim; led = l }
+pub record Lights (s : Switches) (on : Bool) (bits : ℕ) (r : Switches) : Type 0 where
+  pub is : r ≡ ledTo on bits s
 
--- A known opcode, and data of a length that it takes.
-pub record Fit (opcode : ℕ) (carried : List ℕ) : Type 0 where
-  pub known : isKnown opcode ≡ true
-  pub is : lengthAllowed opcode carried ≡ true
-
-pub record Sounds (d : Device) (code : ℕ) (r : Commanded) : Type 0 where
-  pub is : r ≡ commandedOf d (beepCommand (deviceOf d) (code ∷ []))
-
-pub record Lights (d : Device) (on : Bool) (bits : ℕ) (r : Commanded) : Type 0 where
-  pub is : r ≡ commandedOf d (ledCommand (deviceOf d) on (bits ∷ []))
+-- Acted on, with this device and this beep.
+pub record Acts (t : Table) (s : Switches) (b : Beep) (r : Commanded) : Type 0 where
+  pub is : r ≡ record { device = record { table = t; switches = s }; verdict = verdict.Done b }

@@ -1,16 +1,13 @@
-// The reader's commands: which opcodes and data lengths are known, Table 2-12, and what each command does to the device.
-use packet::PARAM_REQUEST;
-use packet::PARAM_SEND;
+// The reader's commands: which opcode names which, the data that each takes, its beeps, and what it does to the device.
 use packet::Refusal;
 use table::Table;
 ghost use Prim.Native.Nat.{_%_};
 ghost use mathlib.Core.Path.{_≡_};
-ghost use mathlib.Core.List.{[]};
 ghost use lib.ListN.{length};
-ghost use Rattle.commands.specs.Commands.{acted, denied, command, judged, sendCommand, startCommand, bareCommand};
-ghost use Rattle.commands.specs.Promises.{IsKnown, LengthAllowed, SendBeepAllowed, Sounds, Lights, Reports, WithTable, WithSession, WithScanning, WithAim, WithLed, Commands, IsOneByte, IsBare, Fit, deviceOf};
+ghost use Rattle.commands.specs.Commands.{denied, judged, effect, sendCommand, beepCommand};
+ghost use Rattle.commands.specs.Promises.{Names, LengthAllowed, Commands, Fit, SendBeepAllowed, Reports, StartsSession, StopsSession, Scans, Aims, Lights, Acts, deviceOf};
 
-// Table 2-12: duration, pitch and number of beeps of each code; specs/Beeps.antt says what the numbers mean.
+// §13: duration, pitch and number of beeps of each code; specs/Beeps.antt says what the numbers mean.
 const BEEPS: [[u8; 3]; 30] = [
     [0, 0, 1],
     [0, 0, 2],
@@ -46,16 +43,42 @@ const BEEPS: [[u8; 3]; 30] = [
 // The highest code that is allowed.
 const BEEP_LIMIT: u8 = 0x1A;
 
-// What the commands change: the parameter table, scanning, session, aim and LED.
-pub struct Device {
-    pub table: Table,
-    pub enabled: bool,
+// What the commands switch on and off.
+pub struct Switches {
+    pub scanning: bool,
     pub session: bool,
     pub aim: bool,
     pub led: bool,
 }
 
-// The row of Table 2-12 that is reported, if one is.
+// What the commands change.
+pub struct Device {
+    pub table: Table,
+    pub switches: Switches,
+}
+
+pub enum Command {
+    ParamSend,
+    ParamRequest,
+    ParamDefaults,
+    StartSession,
+    StopSession,
+    Beep,
+    LedOn,
+    LedOff,
+    ScanEnable,
+    ScanDisable,
+    AimOn,
+    AimOff,
+}
+
+// What an opcode names.
+pub enum Named {
+    Unknown,
+    Known(Command),
+}
+
+// The row of beeps that is reported, if one is.
 pub enum Beep {
     Silent,
     Row { duration: u8, pitch: u8, count: u8 },
@@ -72,146 +95,77 @@ pub struct Commanded {
     pub verdict: Verdict,
 }
 
-// Whether the opcode is a command's.
-pub fn known(opcode: u8) -> bool
-    ensures { λ r. ⌜ IsKnown opcode r ⌝ }
+// The command that an opcode names, if it is one.
+pub fn named_by(opcode: u8) -> Named
+    ensures { λ r. ⌜ Names opcode r ⌝ }
 {
-    if opcode == PARAM_SEND {
-        return true;
+    match opcode {
+        packet::PARAM_SEND => Named::Known(Command::ParamSend),
+        packet::PARAM_REQUEST => Named::Known(Command::ParamRequest),
+        packet::PARAM_DEFAULTS => Named::Known(Command::ParamDefaults),
+        packet::START_SESSION => Named::Known(Command::StartSession),
+        packet::STOP_SESSION => Named::Known(Command::StopSession),
+        packet::BEEP => Named::Known(Command::Beep),
+        packet::LED_ON => Named::Known(Command::LedOn),
+        packet::LED_OFF => Named::Known(Command::LedOff),
+        packet::SCAN_ENABLE => Named::Known(Command::ScanEnable),
+        packet::SCAN_DISABLE => Named::Known(Command::ScanDisable),
+        packet::AIM_ON => Named::Known(Command::AimOn),
+        packet::AIM_OFF => Named::Known(Command::AimOff),
+        _ => Named::Unknown,
     }
-    if opcode == PARAM_REQUEST {
-        return true;
-    }
-    if one_byte(opcode) {
-        return true;
-    }
-    bare(opcode)
 }
 
-// Whether the data has a length that this opcode takes; of an opcode that is not known, whether it is empty.
-pub fn length_allowed(opcode: u8, data: &[u8]) -> bool
-    ensures { λ r. ⌜ LengthAllowed opcode (now («data» .entry)) r ⌝ }
+// Whether the data has a length that the command takes.
+pub fn length_allowed(command: Command, data: &[u8]) -> bool
+    ensures { λ r. ⌜ LengthAllowed command (now («data» .entry)) r ⌝ }
 {
-    let n = data.len();
-    if opcode == PARAM_SEND {
-        return n % 2 == 1;
+    match command {
+        Command::ParamSend => table::send_length_allowed(data),
+        Command::ParamRequest => table::request_length_allowed(data),
+        Command::ParamDefaults => data.len() == 0,
+        Command::StartSession => data.len() == 0,
+        Command::StopSession => data.len() == 0,
+        Command::Beep => data.len() == 1,
+        Command::LedOn => data.len() == 1,
+        Command::LedOff => data.len() == 1,
+        Command::ScanEnable => data.len() == 0,
+        Command::ScanDisable => data.len() == 0,
+        Command::AimOn => data.len() == 0,
+        Command::AimOff => data.len() == 0,
     }
-    if opcode == PARAM_REQUEST {
-        return 0 < n;
-    }
-    if one_byte(opcode) {
-        return n == 1;
-    }
-    n == 0
 }
 
-// What a command does to the device, or why it is denied: 6 and 7, then 8 and 9. What is denied changes nothing.
-pub fn command(device: Device, opcode: u8, status: u8, data: &[u8]) -> Commanded
-    ensures { λ r. ⌜ Commands device (judged (deviceOf device) opcode status (now («data» .entry))) r ⌝ }
+// What a command does to the device, or why it is denied: 7, then 8 and 9. What is denied changes nothing.
+pub fn act(device: Device, command: Command, status: u8, data: &[u8]) -> Commanded
+    ensures { λ r. ⌜ Commands device (judged (deviceOf device) command status (now («data» .entry))) r ⌝ }
 {
-    if known(opcode) {
-        if length_allowed(opcode, data) {
-            return act_on(device, opcode, status, data);
-        }
-        return denied(device, Refusal::Data);
+    if length_allowed(command, data) {
+        return act_on(device, command, status, data);
     }
-    denied(device, Refusal::Opcode)
+    denied(device, Refusal::Data)
 }
 
-// Commands with one byte of data.
-fn one_byte(opcode: u8) -> bool
-    ensures { λ r. ⌜ IsOneByte opcode r ⌝ }
+fn act_on(device: Device, command: Command, status: u8, data: &[u8]) -> Commanded
+    requires { ⌜ Fit command (now «data») ⌝ }
+    ensures { λ r. ⌜ Commands device (effect (deviceOf device) command status (now («data» .entry))) r ⌝ }
 {
-    if opcode == packet::BEEP {
-        return true;
+    let table = device.table;
+    let switches = device.switches;
+    match command {
+        Command::ParamSend => send(device, status, data),
+        Command::ParamRequest => done(table, switches, Beep::Silent),
+        Command::ParamDefaults => done(table::defaults(), switches, Beep::Silent),
+        Command::StartSession => done(table, start_session(switches), Beep::Silent),
+        Command::StopSession => done(table, stop_session(switches), Beep::Silent),
+        Command::Beep => beep_command(device, data[0]),
+        Command::LedOn => done(table, light(switches, true, data[0]), Beep::Silent),
+        Command::LedOff => done(table, light(switches, false, data[0]), Beep::Silent),
+        Command::ScanEnable => done(table, scan(switches, true), Beep::Silent),
+        Command::ScanDisable => done(table, scan(switches, false), Beep::Silent),
+        Command::AimOn => done(table, aim(switches, true), Beep::Silent),
+        Command::AimOff => done(table, aim(switches, false), Beep::Silent),
     }
-    if opcode == packet::LED_ON {
-        return true;
-    }
-    opcode == packet::LED_OFF
-}
-
-// Commands without data.
-fn bare(opcode: u8) -> bool
-    ensures { λ r. ⌜ IsBare opcode r ⌝ }
-{
-    if opcode == packet::PARAM_DEFAULTS {
-        return true;
-    }
-    if opcode == packet::START_SESSION {
-        return true;
-    }
-    if opcode == packet::STOP_SESSION {
-        return true;
-    }
-    if opcode == packet::SCAN_ENABLE {
-        return true;
-    }
-    if opcode == packet::SCAN_DISABLE {
-        return true;
-    }
-    if opcode == packet::AIM_ON {
-        return true;
-    }
-    opcode == packet::AIM_OFF
-}
-
-// A known opcode with data of a length that it takes.
-fn act_on(device: Device, opcode: u8, status: u8, data: &[u8]) -> Commanded
-    requires { ⌜ Fit opcode (now «data») ⌝ }
-    ensures { λ r. ⌜ Commands device (command (deviceOf device) opcode status (now («data» .entry))) r ⌝ }
-{
-    if opcode == PARAM_SEND {
-        return send(device, status, data);
-    }
-    if opcode == PARAM_REQUEST {
-        return done(device);
-    }
-    if opcode == packet::BEEP {
-        return sound(device, data[0]);
-    }
-    if opcode == packet::LED_ON {
-        return light(device, true, data[0]);
-    }
-    if opcode == packet::LED_OFF {
-        return light(device, false, data[0]);
-    }
-    switch(device, opcode)
-}
-
-// The commands without data.
-fn switch(device: Device, opcode: u8) -> Commanded
-    ensures { λ r. ⌜ Commands device (bareCommand (deviceOf device) opcode) r ⌝ }
-{
-    if opcode == packet::PARAM_DEFAULTS {
-        return done(with_table(device, table::defaults()));
-    }
-    if opcode == packet::START_SESSION {
-        return start_session(device);
-    }
-    if opcode == packet::STOP_SESSION {
-        return done(with_session(device, false));
-    }
-    if opcode == packet::SCAN_ENABLE {
-        return done(with_scanning(device, true, device.session));
-    }
-    if opcode == packet::SCAN_DISABLE {
-        return done(with_scanning(device, false, false));
-    }
-    if opcode == packet::AIM_ON {
-        return done(with_aim(device, true));
-    }
-    done(with_aim(device, false))
-}
-
-// START_SESSION while disabled starts none.
-fn start_session(device: Device) -> Commanded
-    ensures { λ r. ⌜ Commands device (startCommand (deviceOf device)) r ⌝ }
-{
-    if device.enabled {
-        return done(with_session(device, true));
-    }
-    done(device)
 }
 
 // PARAM_SEND: a beep byte, then pairs, all or nothing.
@@ -225,46 +179,86 @@ fn send(device: Device, status: u8, data: &[u8]) -> Commanded
         let changed = table::set(table, &data[1..], status / 8 % 2 == 1);
         let verdict = changed.verdict;
         let next = changed.table;
+        let switches = device.switches;
         return match verdict {
-            table::Verdict::Done => Commanded {
-                device: with_table(device, next),
-                verdict: Verdict::Done(report(code)),
-            },
+            table::Verdict::Done => done(next, switches, report(code)),
             table::Verdict::Refused(refusal) => denied(device, refusal),
         };
     }
     denied(device, Refusal::Beep)
 }
 
-// BEEP reports the row of Table 2-12 for that code.
-fn sound(device: Device, code: u8) -> Commanded
-    ensures { λ r. ⌜ Sounds device code r ⌝ }
+// BEEP reports the row of its code.
+fn beep_command(device: Device, code: u8) -> Commanded
+    ensures { λ r. ⌜ Commands device (beepCommand (deviceOf device) code) r ⌝ }
 {
     if code <= BEEP_LIMIT {
-        return Commanded {
-            device,
-            verdict: Verdict::Done(report(code)),
-        };
+        let table = device.table;
+        let switches = device.switches;
+        return done(table, switches, report(code));
     }
     denied(device, Refusal::Beep)
 }
 
-// LED looks at bit 0 only.
-fn light(device: Device, on: bool, bits: u8) -> Commanded
-    ensures { λ r. ⌜ Lights device on bits r ⌝ }
+// START_SESSION while scanning is disabled starts none; a session that is on stays on.
+fn start_session(switches: Switches) -> Switches
+    ensures { λ r. ⌜ StartsSession switches r ⌝ }
 {
-    if bits % 2 == 1 {
-        return done(with_led(device, on));
+    let mut next = switches;
+    if switches.scanning {
+        next.session = true;
+        return next;
     }
-    done(device)
+    next
 }
 
-fn done(device: Device) -> Commanded
-    ensures { λ r. ⌜ Commands device (acted (deviceOf device) []) r ⌝ }
+fn stop_session(switches: Switches) -> Switches
+    ensures { λ r. ⌜ StopsSession switches r ⌝ }
+{
+    let mut next = switches;
+    next.session = false;
+    next
+}
+
+// SCAN_DISABLE ends a session.
+fn scan(switches: Switches, on: bool) -> Switches
+    ensures { λ r. ⌜ Scans switches on r ⌝ }
+{
+    let mut next = switches;
+    next.scanning = on;
+    if on {
+        return next;
+    }
+    next.session = false;
+    next
+}
+
+fn aim(switches: Switches, on: bool) -> Switches
+    ensures { λ r. ⌜ Aims switches on r ⌝ }
+{
+    let mut next = switches;
+    next.aim = on;
+    next
+}
+
+// LED looks at bit 0 only.
+fn light(switches: Switches, on: bool, bits: u8) -> Switches
+    ensures { λ r. ⌜ Lights switches on bits r ⌝ }
+{
+    let mut next = switches;
+    if bits % 2 == 1 {
+        next.led = on;
+        return next;
+    }
+    next
+}
+
+fn done(table: Table, switches: Switches, beep: Beep) -> Commanded
+    ensures { λ r. ⌜ Acts table switches beep r ⌝ }
 {
     Commanded {
-        device,
-        verdict: Verdict::Done(Beep::Silent),
+        device: Device { table, switches },
+        verdict: Verdict::Done(beep),
     }
 }
 
@@ -301,68 +295,4 @@ fn report(code: u8) -> Beep
         };
     }
     Beep::Silent
-}
-
-fn with_table(device: Device, table: Table) -> Device
-    ensures { λ r. ⌜ WithTable device table r ⌝ }
-{
-    Device {
-        table,
-        enabled: device.enabled,
-        session: device.session,
-        aim: device.aim,
-        led: device.led,
-    }
-}
-
-fn with_session(device: Device, session: bool) -> Device
-    ensures { λ r. ⌜ WithSession device session r ⌝ }
-{
-    let table = device.table;
-    Device {
-        table,
-        enabled: device.enabled,
-        session,
-        aim: device.aim,
-        led: device.led,
-    }
-}
-
-fn with_scanning(device: Device, enabled: bool, session: bool) -> Device
-    ensures { λ r. ⌜ WithScanning device enabled session r ⌝ }
-{
-    let table = device.table;
-    Device {
-        table,
-        enabled,
-        session,
-        aim: device.aim,
-        led: device.led,
-    }
-}
-
-fn with_aim(device: Device, aim: bool) -> Device
-    ensures { λ r. ⌜ WithAim device aim r ⌝ }
-{
-    let table = device.table;
-    Device {
-        table,
-        enabled: device.enabled,
-        session: device.session,
-        aim,
-        led: device.led,
-    }
-}
-
-fn with_led(device: Device, led: bool) -> Device
-    ensures { λ r. ⌜ WithLed device led r ⌝ }
-{
-    let table = device.table;
-    Device {
-        table,
-        enabled: device.enabled,
-        session: device.session,
-        aim: device.aim,
-        led,
-    }
 }

@@ -1,5 +1,6 @@
 pub mod Calls
 pub mod Reading
+pub mod Refusing
 pub mod Storing
 pub mod Telling
 pub mod Unique

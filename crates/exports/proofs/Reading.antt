@@ -74,12 +74,12 @@ unfolding tableIn
 table-in {s} k l = record { is = rw (k .is, l .is, rest-part 9 s) refl }
 
 pub device-in : {s : List ℕ} {t : Table} → TableIn s t →
-    DeviceIn s (record { table = t; enabled = flagIn s 18; session = flagIn s 19; aim = flagIn s 20; led = flagIn s 21 })
+    DeviceIn s (record { table = t; switches = record { scanning = flagIn s 18; session = flagIn s 19; aim = flagIn s 20; led = flagIn s 21 } })
 unfolding deviceIn
 device-in k = record { is = rw (k .is) refl }
 
 pub reader-in : {s : List ℕ} {h : Halves} {n : ℕ} {d : Device} {t : Sender} → HalvesIn s h → NumberIn (from 18 s) n → DeviceIn (from 26 s) d → SenderIn (from 48 s) t →
-    ReaderIn s (record { line = h; answered = n; device = d; sender = t })
+    ReaderIn s (record { line = h; «last_answer» = n; device = d; sender = t })
 unfolding readerIn
 reader-in {s} p q r t = record { is = rw (p .is, q .is, r .is, t .is, rest-part 18 s, rest-part 26 s, rest-part 48 s) refl }
 
@@ -146,21 +146,21 @@ device-back : (d : Device) (rest : List ℕ) → SizedTable (d .table) → devic
 unfolding deviceIn deviceBytes
 device-back d rest k =
     let t = tableBytes (d .table) in
-    let f = flagByte (d .enabled) ∷ flagByte (d .session) ∷ flagByte (d .aim) ∷ flagByte (d .led) ∷ [] in
+    let f = flagByte (d .switches .scanning) ∷ flagByte (d .switches .session) ∷ flagByte (d .switches .aim) ∷ flagByte (d .switches .led) ∷ [] in
     let long = table-long (d .table) k in
     rw (append-assoc t f rest)
     (rw
     (table-back (d .table) (f ++ rest) k, past 18 0 t (f ++ rest) long, past 18 1 t (f ++ rest) long, past 18 2 t (f ++ rest) long, past 18 3 t (f ++ rest) long)
-    (rw (flag-back (d .enabled), flag-back (d .session), flag-back (d .aim), flag-back (d .led)) refl))
+    (rw (flag-back (d .switches .scanning), flag-back (d .switches .session), flag-back (d .switches .aim), flag-back (d .switches .led)) refl))
 
 pub reader-back : (r : Reader) (rest : List ℕ) → SmallReader r → readerIn (readerBytes r ++ rest) ≡ r
 unfolding readerIn readerBytes
 reader-back r rest k =
     let h = halvesBytes (r .line) in
-    let n = numberBytes (r .answered) in
+    let n = numberBytes (r .«last_answer») in
     let d = deviceBytes (r .device) in
     let s = senderBytes (r .sender) in
-    let hn : length (h ++ n) ≡ 26 = length-append h n ∙ omega (arith, halves-long (r .line), number-long (r .answered)) in
+    let hn : length (h ++ n) ≡ 26 = length-append h n ∙ omega (arith, halves-long (r .line), number-long (r .«last_answer»)) in
     let hnd : length ((h ++ n) ++ d) ≡ 48 = length-append (h ++ n) d ∙ omega (arith, device-long (r .device) (k .table)) in
     let a : (h ++ (n ++ (d ++ s))) ++ rest ≡ h ++ (n ++ (d ++ (s ++ rest))) = simp append-assoc in
     let b : drop 18 (h ++ (n ++ (d ++ (s ++ rest)))) ≡ n ++ (d ++ (s ++ rest)) = drop-at h (n ++ (d ++ (s ++ rest))) 18 (halves-long (r .line)) in
@@ -169,5 +169,5 @@ reader-back r rest k =
     rw (← append-assoc h n (d ++ (s ++ rest)), ← append-assoc (h ++ n) d (s ++ rest)) (drop-at ((h ++ n) ++ d) (s ++ rest) 48 hnd) in
     rw a
     (rw
-    (halves-back (r .line) (n ++ (d ++ (s ++ rest))) (k .line), b, c, e, number-back (r .answered) (d ++ (s ++ rest)) (k .answered), device-back (r .device) (s ++ rest) (k .table), sender-back (r .sender) rest (k .sender))
+    (halves-back (r .line) (n ++ (d ++ (s ++ rest))) (k .line), b, c, e, number-back (r .«last_answer») (d ++ (s ++ rest)) (k .«last_answer»), device-back (r .device) (s ++ rest) (k .table), sender-back (r .sender) rest (k .sender))
     refl)

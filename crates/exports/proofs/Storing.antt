@@ -193,40 +193,40 @@ table-put {t} {room} {room₁} {part} l p q present permanent =
       sized = record { present = p; permanent = q };
     }
 
-pub device-put : {d : Device} {a b e f : ℕ} {room room₁ part : List ℕ} → 22 ≤ length room → FlagByte (d .enabled) a → FlagByte (d .session) b → FlagByte (d .aim) e →
-    FlagByte (d .led) f →
+pub device-put : {d : Device} {a b e f : ℕ} {room room₁ part : List ℕ} → 22 ≤ length room → FlagByte (d .switches .scanning) a → FlagByte (d .switches .session) b → FlagByte (d .switches .aim) e →
+    FlagByte (d .switches .led) f →
     PutsTable (d .table) room room₁ →
     Over (a ∷ b ∷ e ∷ f ∷ []) (take (length room₁ - 18) (drop 18 room₁)) part →
     PutsDevice d room (back 18 part room₁)
 unfolding deviceBytes
-device-put {d} {a} {b} {e} {f} {room} {room₁} {part} l enabled session aim led table flags =
+device-put {d} {a} {b} {e} {f} {room} {room₁} {part} l scanning session aim led table flags =
     record {
       is =
           behind 18 (tableBytes (d .table)) (a ∷ b ∷ e ∷ f ∷ []) room room₁ part (table-long (d .table) (table .sized)) (omega arith) (table .is) (flags .is)
-          ∙ rw (enabled .is, session .is, aim .is, led .is) refl;
+          ∙ rw (scanning .is, session .is, aim .is, led .is) refl;
       sized = table .sized;
     }
 
 pub reader-put : {r : Reader} {room room₁ room₂ room₃ part part₂ part₃ : List ℕ} → 83 ≤ length room → PutsHalves (r .line) room room₁ →
-    PutsNumber (r .answered) (take (length room₁ - 18) (drop 18 room₁)) part →
+    PutsNumber (r .«last_answer») (take (length room₁ - 18) (drop 18 room₁)) part →
     room₂ ≡ back 18 part room₁ →
     PutsDevice (r .device) (take (length room₂ - 26) (drop 26 room₂)) part₂ →
     room₃ ≡ back 26 part₂ room₂ →
     PutsSender (r .sender) (take (length room₃ - 48) (drop 48 room₃)) part₃ →
     PutsReader r room (back 48 part₃ room₃)
 unfolding readerBytes
-reader-put {r} {room} {room₁} {room₂} {room₃} {part} {part₂} {part₃} l line answered e device f sender =
+reader-put {r} {room} {room₁} {room₂} {room₃} {part} {part₂} {part₃} l line answer e device f sender =
     let h = halvesBytes (r .line) in
-    let n = numberBytes (r .answered) in
+    let n = numberBytes (r .«last_answer») in
     let d = deviceBytes (r .device) in
     let s = senderBytes (r .sender) in
-    let hn : length (h ++ n) ≡ 26 = length-append h n ∙ omega (arith, halves-long (r .line), number-long (r .answered)) in
+    let hn : length (h ++ n) ≡ 26 = length-append h n ∙ omega (arith, halves-long (r .line), number-long (r .«last_answer»)) in
     let hnd : length ((h ++ n) ++ d) ≡ 48 = length-append (h ++ n) d ∙ omega (arith, device-long (r .device) (device .sized)) in
-    let second = behind 18 h n room room₁ part (halves-long (r .line)) (omega (arith, number-long (r .answered))) (line .is) (answered .is) in
+    let second = behind 18 h n room room₁ part (halves-long (r .line)) (omega (arith, number-long (r .«last_answer»))) (line .is) (answer .is) in
     let third = behind 26 (h ++ n) d room room₂ part₂ hn (omega (arith, device-long (r .device) (device .sized))) (e ∙ second) (device .is) in
     record {
       is =
           behind 48 ((h ++ n) ++ d) s room room₃ part₃ hnd (omega (arith, sender-long (r .sender))) (f ∙ third) (sender .is)
           ∙ simp append-assoc;
-      small = record { line = line .small; answered = answered .small; table = device .sized; sender = sender .small };
+      small = record { line = line .small; «last_answer» = answer .small; table = device .sized; sender = sender .small };
     }

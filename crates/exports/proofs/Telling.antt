@@ -103,6 +103,6 @@ reader-values {t} {answer = answer} {number} {value} k n v = record { is = rw (k
 pub switch-is : {b : Bool} {n w : ℕ} → FlagByte b n → Wide n w → w ≡ flagByte b
 switch-is flag wide = wide .is ∙ flag .is
 
-pub switches-are : {d : Device} {enabled session aim led : ℕ} → enabled ≡ flagByte (d .enabled) → session ≡ flagByte (d .session) → aim ≡ flagByte (d .aim) → led ≡ flagByte (d .led) →
-    Switches d (enabled ∷ session ∷ aim ∷ led ∷ [])
+pub switches-are : {d : Device} {scanning session aim led : ℕ} → scanning ≡ flagByte (d .switches .scanning) → session ≡ flagByte (d .switches .session) → aim ≡ flagByte (d .switches .aim) → led ≡ flagByte (d .switches .led) →
+    Switches d (scanning ∷ session ∷ aim ∷ led ∷ [])
 switches-are e s a l = record { is = rw (e, s, a, l) refl }

@@ -7,22 +7,24 @@ use mathlib.Core.Logic.{_⊎_, inl, inr, ⊎-elim}
 use lib.Dec.{ltb}
 use lib.ListN.{length}
 use borrow.Author.Tests.{ltb-true, ltb-false}
-use Rattle.words.specs.Lists.{over}
+use Rattle.packet.specs.Packet.{sizeOf}
+use Rattle.words.specs.Lists.{pick, over}
 use Rattle.packet.proofs.Unique as packet
 use Rattle.framer.proofs.Unique as framing
 use Rattle.framer.specs.declared.Framed.{Framed}
 use Rattle.hub.proofs.Unique as joining
-use Rattle.hub.specs.declared.Answered.{Answered}
+use Rattle.hub.specs.declared.Taken.{Taken}
 use Rattle.sender.proofs.Unique as sending
 use Rattle.sender.specs.declared.Sending.{Sending}
+use Rattle.sender.specs.declared.Outcome.{Outcome}
 use Rattle.table.proofs.Unique as settings
 use Rattle.reader.proofs.Unique as reading
 use Rattle.reader.specs.declared.Reader.{Reader}
-use Rattle.reader.specs.declared.Answered.{Answered as Commanded}
+use Rattle.reader.specs.declared.Taken.{Taken as Commanded}
 use Rattle.reader.specs.declared.Started.{Started}
-use Rattle.exports.specs.Lent.{Need, atLeast, Lacking, here, there, Enough, none, more, Asks, Kept, Made}
-use Rattle.exports.specs.Numbers.{checkedNumber, checkedValues, heardNumber, foundNumber, foundValues, builtNumber, builtSize, hubNumber, hubValues, outcomeNumber, outcomeValue, waitsNumber, readerNumber, readerValues}
-use Rattle.exports.specs.Promises.{PacketChecks, PacketBuilds, PacketAnswers, FramerIdle, FramerHears, HubOn, HubHears, SenderIdle, SenderTold, SenderStarts, SenderHears, SenderWaits, SenderHeeds, FreshReader, ReaderOn, ReaderPowersUp, ReaderTold, ReaderStarts, ReaderTimesOut, ReaderHears, ReaderValue, ReaderSwitches}
+use Rattle.exports.specs.Lent.{Need, atLeast, Lacking, here, there, Enough, none, more, Asks, KeptUnless, Kept, Made}
+use Rattle.exports.specs.Numbers.{checkedNumber, checkedValues, heardNumber, foundNumber, foundValues, builtNumber, hubNumber, hubValues, outcomeNumber, outcomeValue, isRefused, waitsNumber, readerNumber, readerValues}
+use Rattle.exports.specs.Promises.{PacketChecks, PacketBuilds, PacketAnswers, FramerIdle, FramerHears, HubOn, HubHears, SenderIdle, Brings, SenderStarts, SenderHears, SenderWaits, SenderHeeds, FreshReader, ReaderOn, ReaderPowersUp, ReaderStarts, ReaderTimesOut, ReaderHears, ReaderValue, ReaderSwitches}
 
 -- ---- what is lent
 
@@ -31,7 +33,7 @@ decided-by n s needs true e k = inl (here (ltb-true (length s) n e))
 decided-by n s needs false e (inl k) = inl (there k)
 decided-by n s needs false e (inr k) = inr (more (ltb-false (length s) n e) k)
 
-decided : (needs : List Need) → Lacking needs ⊎ Enough needs
+pub decided : (needs : List Need) → Lacking needs ⊎ Enough needs
 decided [] = inr none
 decided (atLeast n s ∷ needs) = decided-by n s needs (ltb (length s) n) refl (decided needs)
 
@@ -42,6 +44,14 @@ asks-unique {needs} p q refused taken = ⊎-elim (λ k. refused (p .refuses k) (
 same-kept : {C : Type 0} {read : List ℕ → C} {bytes : C → List ℕ} {v v′ : C} {control control₁ control₂ : List ℕ} → v ≡ v′ → Kept read bytes v control control₁ →
     Kept read bytes v′ control control₂ → control₁ ≡ control₂
 same-kept {bytes = bytes} {control = control} e p q = p .control-is ∙ (ap (λ v. over (bytes v) control) e ∙ sym (q .control-is))
+
+-- The same start, the same bytes.
+same-start : {C S : Type 0} {read : List ℕ → C} {bytes : C → List ℕ} {s s′ : S} {control control₁ control₂ : List ℕ} (refused : S → Bool) (left : S → C) → s ≡ s′ →
+    KeptUnless (refused s) read bytes (left s) control control₁ →
+    KeptUnless (refused s′) read bytes (left s′) control control₂ →
+    control₁ ≡ control₂
+same-start {bytes = bytes} {control = control} refused left e p q =
+    p .control-is ∙ (ap (λ x. pick (refused x) control (over (bytes (left x)) control)) e ∙ sym (q .control-is))
 
 -- Two equal to one are equal.
 same : {A : Type 0} {x y z : A} → x ≡ z → y ≡ z → x ≡ y
@@ -95,13 +105,13 @@ pub build-unique : {room carried room₁ room₂ : List ℕ} {opcode source stat
     PacketBuilds room opcode source status carried r′ room₂ size₂ → (r ≡ r′) × (room₁ ≡ room₂) × (size₁ ≡ size₂)
 build-unique p q =
     let u = packet.build-unique (p .builds) (q .builds) in
-    (numbered builtNumber (u .0) (p .told) (q .told), u .1, numbered builtSize (u .0) (p .value) (q .value))
+    (numbered builtNumber (u .0) (p .told) (q .told), u .1, numbered sizeOf (u .0) (p .value) (q .value))
 
 pub answer-unique : {room room₁ room₂ : List ℕ} {source reply r r′ size₁ size₂ : ℕ} → PacketAnswers room source reply r room₁ size₁ →
     PacketAnswers room source reply r′ room₂ size₂ → (r ≡ r′) × (room₁ ≡ room₂) × (size₁ ≡ size₂)
 answer-unique p q =
     let u = packet.answer-unique (p .answers) (q .answers) in
-    (numbered builtNumber (u .0) (p .told) (q .told), u .1, numbered builtSize (u .0) (p .value) (q .value))
+    (numbered builtNumber (u .0) (p .told) (q .told), u .1, numbered sizeOf (u .0) (p .value) (q .value))
 
 -- ---- the framer
 
@@ -130,24 +140,19 @@ hub-hear-unique p q =
     (same (a .0) (b .0), same (a .1) (b .1), same (a .2) (b .2), same (a .3) (b .3), same (a .4) (b .4), same (a .5) (b .5), same (a .6) (b .6)))
     (λ a b.
     let u = joining.hear-unique (a .hears) (b .hears) in (
-      numbered (λ (x : Answered). hubNumber (x .told)) (u .0) (a .told) (b .told),
-      same-kept (ap (λ (x : Answered). x .hub) (u .0)) (a .kept) (b .kept),
+      numbered (λ (x : Taken). hubNumber (x .told)) (u .0) (a .told) (b .told),
+      same-kept (ap (λ (x : Taken). x .hub) (u .0)) (a .kept) (b .kept),
       u .1,
       u .2,
       u .3,
       u .4,
-      numbered (λ (x : Answered). hubValues (x .told) (x .answer)) (u .0) (a .values-are) (b .values-are),
+      numbered (λ (x : Taken). hubValues (x .told) (x .answer)) (u .0) (a .values-are) (b .values-are),
     ))
 
 -- ---- the sender
 
-sender-told-unique : {sent sent′ : Sending} {control control₁ control₂ : List ℕ} {r r′ value₁ value₂ : ℕ} → sent ≡ sent′ → SenderTold sent control r control₁ value₁ →
-    SenderTold sent′ control r′ control₂ value₂ → (r ≡ r′) × (control₁ ≡ control₂) × (value₁ ≡ value₂)
-sender-told-unique u a b = (
-  numbered (λ (x : Sending). outcomeNumber (x .outcome)) u (a .told) (b .told),
-  same-kept (ap (λ (x : Sending). x .sender) u) (a .kept) (b .kept),
-  numbered (λ (x : Sending). outcomeValue (x .outcome)) u (a .value-is) (b .value-is),
-)
+brings-unique : {o o′ : Outcome} {r r′ value₁ value₂ : ℕ} → o ≡ o′ → Brings o r value₁ → Brings o′ r′ value₂ → (r ≡ r′) × (value₁ ≡ value₂)
+brings-unique e a b = (numbered outcomeNumber e (a .told) (b .told), numbered outcomeValue e (a .value-is) (b .value-is))
 
 pub sender-start-unique : {control buffer room message control₁ buffer₁ room₁ control₂ buffer₂ room₂ : List ℕ} {code r r′ value₁ value₂ : ℕ} →
     SenderStarts control buffer room code message r control₁ buffer₁ room₁ value₁ →
@@ -158,8 +163,8 @@ sender-start-unique p q =
     (λ a b. (same (a .0) (b .0), same (a .1) (b .1), same (a .2) (b .2), same (a .3) (b .3), same (a .4) (b .4)))
     (λ a b.
     let u = sending.start-unique (a .starts) (b .starts) in
-    let t = sender-told-unique (u .0) (a .brings) (b .brings) in
-    (t .0, t .1, u .1, u .2, t .2))
+    let t = brings-unique (ap (λ (x : Sending). x .outcome) (u .0)) (a .brings) (b .brings) in
+    (t .0, same-start (λ (x : Sending). isRefused (x .outcome)) (λ (x : Sending). x .sender) (u .0) (a .kept) (b .kept), u .1, u .2, t .1))
 
 pub sender-hear-unique : {control buffer room control₁ room₁ control₂ room₂ : List ℕ} {n r r′ value₁ value₂ : ℕ} → SenderHears control buffer room n r control₁ room₁ value₁ →
     SenderHears control buffer room n r′ control₂ room₂ value₂ → (r ≡ r′) × (control₁ ≡ control₂) × (room₁ ≡ room₂) × (value₁ ≡ value₂)
@@ -168,8 +173,8 @@ sender-hear-unique p q =
     (λ a b. (same (a .0) (b .0), same (a .1) (b .1), same (a .2) (b .2), same (a .3) (b .3)))
     (λ a b.
     let u = sending.hear-unique (a .hears) (b .hears) in
-    let t = sender-told-unique (u .0) (a .brings) (b .brings) in
-    (t .0, t .1, u .1, t .2))
+    let t = brings-unique (ap (λ (x : Sending). x .outcome) (u .0)) (a .brings) (b .brings) in
+    (t .0, same-kept (ap (λ (x : Sending). x .sender) (u .0)) (a .kept) (b .kept), u .1, t .1))
 
 pub sender-waits-unique : {control : List ℕ} {r r′ : ℕ} → SenderWaits control r → SenderWaits control r′ → r ≡ r′
 sender-waits-unique p q =
@@ -181,16 +186,6 @@ sender-heed-unique p q = numbered heardNumber (sending.heed-unique (p .heeds) (q
 
 -- ---- the reader
 
-reader-told-unique : {started started′ : Started} {control control₁ control₂ : List ℕ} {r r′ value₁ value₂ : ℕ} → started ≡ started′ →
-    ReaderTold started control r control₁ value₁ →
-    ReaderTold started′ control r′ control₂ value₂ →
-    (r ≡ r′) × (control₁ ≡ control₂) × (value₁ ≡ value₂)
-reader-told-unique u a b = (
-  numbered (λ (x : Started). outcomeNumber (x .outcome)) u (a .told) (b .told),
-  same-kept (ap (λ (x : Started). x .reader) u) (a .kept) (b .kept),
-  numbered (λ (x : Started). outcomeValue (x .outcome)) u (a .value-is) (b .value-is),
-)
-
 pub reader-start-unique : {control message copy bytes control₁ message₁ copy₁ control₂ message₂ copy₂ : List ℕ} {code r r′ value₁ value₂ : ℕ} →
     ReaderStarts control message copy code bytes r control₁ message₁ copy₁ value₁ →
     ReaderStarts control message copy code bytes r′ control₂ message₂ copy₂ value₂ →
@@ -200,8 +195,8 @@ reader-start-unique p q =
     (λ a b. (same (a .0) (b .0), same (a .1) (b .1), same (a .2) (b .2), same (a .3) (b .3), same (a .4) (b .4)))
     (λ a b.
     let u = reading.start-unique (a .starts) (b .starts) in
-    let t = reader-told-unique (u .0) (a .brings) (b .brings) in
-    (t .0, t .1, u .1, u .2, t .2))
+    let t = brings-unique (ap (λ (x : Started). x .outcome) (u .0)) (a .brings) (b .brings) in
+    (t .0, same-start (λ (x : Started). isRefused (x .outcome)) (λ (x : Started). x .reader) (u .0) (a .kept) (b .kept), u .1, u .2, t .1))
 
 pub reader-time-out-unique : {control message copy control₁ copy₁ control₂ copy₂ : List ℕ} {r r′ value₁ value₂ : ℕ} → ReaderTimesOut control message copy r control₁ copy₁ value₁ →
     ReaderTimesOut control message copy r′ control₂ copy₂ value₂ → (r ≡ r′) × (control₁ ≡ control₂) × (copy₁ ≡ copy₂) × (value₁ ≡ value₂)
@@ -210,8 +205,8 @@ reader-time-out-unique p q =
     (λ a b. (same (a .0) (b .0), same (a .1) (b .1), same (a .2) (b .2), same (a .3) (b .3)))
     (λ a b.
     let u = reading.time-out-unique (a .times) (b .times) in
-    let t = reader-told-unique (u .0) (a .brings) (b .brings) in
-    (t .0, t .1, u .1, t .2))
+    let t = brings-unique (ap (λ (x : Started). x .outcome) (u .0)) (a .brings) (b .brings) in
+    (t .0, same-kept (ap (λ (x : Started). x .reader) (u .0)) (a .kept) (b .kept), u .1, t .1))
 
 pub reader-hear-unique : {control line answers message answer copy control₁ line₁ answers₁ answer₁ copy₁ values₁ control₂ line₂ answers₂ answer₂ copy₂ values₂ : List ℕ} {n r r′ : ℕ} →
     ReaderHears control line answers message answer copy n r control₁ line₁ answers₁ answer₁ copy₁ values₁ →

@@ -12,9 +12,42 @@ use Rattle.framer.specs.declared.Halves.{Halves}
 use Rattle.hub.specs.declared.Gathering.{Gathering}
 use Rattle.hub.specs.declared.Hub.{Hub}
 use Rattle.sender.specs.declared.Sender.{Sender}
+use Rattle.table.specs.Rows.{parameterCount}
 use Rattle.table.specs.declared.Table.{Table}
 use Rattle.commands.specs.declared.Device.{Device}
 use Rattle.reader.specs.declared.Reader.{Reader}
+
+-- ---- sizes, part by part
+
+abbrev pub halfSize : ℕ
+halfSize = 4
+
+abbrev pub numberSize : ℕ
+numberSize = 2 * halfSize
+
+abbrev pub framerControlSize : ℕ
+framerControlSize = numberSize + 1
+
+abbrev pub halvesSize : ℕ
+halvesSize = framerControlSize + 1 + numberSize
+
+abbrev pub gatheringSize : ℕ
+gatheringSize = 3 + numberSize
+
+abbrev pub hubControlSize : ℕ
+hubControlSize = halvesSize + gatheringSize
+
+abbrev pub senderControlSize : ℕ
+senderControlSize = 3 + 4 * numberSize
+
+abbrev pub tableSize : ℕ
+tableSize = 2 * parameterCount
+
+abbrev pub deviceSize : ℕ
+deviceSize = tableSize + 4
+
+abbrev pub readerControlSize : ℕ
+readerControlSize = halvesSize + numberSize + deviceSize + senderControlSize
 
 -- ---- numbers and flags
 
@@ -90,30 +123,30 @@ senderBytes s =
     ∷ flagByte (s .failed)
     ∷ ((numberBytes (s .length) ++ numberBytes (s .at)) ++ (numberBytes (s .resends) ++ numberBytes (s .copies)))
 
--- ---- the reader: 0 to 17 its line, 18 to 25 answered, 26 to 34 present values, 35 to 43 permanent values, 44 enabled, 45 session, 46 aim,
+-- ---- the reader: 0 to 17 its line, 18 to 25 how long the last answer was, 26 to 34 present values, 35 to 43 permanent values, 44 scanning, 45 session, 46 aim,
 -- 47 LED, 48 to 82 its sender
 
 unfoldable pub tableIn : List ℕ → Table
-tableIn s = record { present = take 9 s; permanent = take 9 (drop 9 s) }
+tableIn s = record { present = take parameterCount s; permanent = take parameterCount (drop parameterCount s) }
 
 unfoldable pub tableBytes : Table → List ℕ
 tableBytes t = t .present ++ t .permanent
 
 unfoldable pub deviceIn : List ℕ → Device
-deviceIn s = record { table = tableIn s; enabled = flagIn s 18; session = flagIn s 19; aim = flagIn s 20; led = flagIn s 21 }
+deviceIn s = record { table = tableIn s; switches = record { scanning = flagIn s 18; session = flagIn s 19; aim = flagIn s 20; led = flagIn s 21 } }
 
 -- What is switched on, as numbers: scanning, session, aim, LED.
 abbrev pub switchValues : Device → List ℕ
-switchValues d = flagByte (d .enabled) ∷ flagByte (d .session) ∷ flagByte (d .aim) ∷ flagByte (d .led) ∷ []
+switchValues d = flagByte (d .switches .scanning) ∷ flagByte (d .switches .session) ∷ flagByte (d .switches .aim) ∷ flagByte (d .switches .led) ∷ []
 
 unfoldable pub deviceBytes : Device → List ℕ
 deviceBytes d = tableBytes (d .table) ++ switchValues d
 
 unfoldable pub readerIn : List ℕ → Reader
-readerIn s = record { line = halvesIn s; answered = numberIn (drop 18 s); device = deviceIn (drop 26 s); sender = senderIn (drop 48 s) }
+readerIn s = record { line = halvesIn s; «last_answer» = numberIn (drop 18 s); device = deviceIn (drop 26 s); sender = senderIn (drop 48 s) }
 
 unfoldable pub readerBytes : Reader → List ℕ
-readerBytes r = halvesBytes (r .line) ++ (numberBytes (r .answered) ++ (deviceBytes (r .device) ++ senderBytes (r .sender)))
+readerBytes r = halvesBytes (r .line) ++ (numberBytes (r .«last_answer») ++ (deviceBytes (r .device) ++ senderBytes (r .sender)))
 
 -- ---- control values whose numbers and arrays the code's types can hold
 
@@ -132,12 +165,12 @@ pub record SmallSender (s : Sender) : Type 0 where
   pub copies : Small (s .copies)
 
 pub record SizedTable (t : Table) : Type 0 where
-  pub present : length (t .present) ≡ 9
-  pub permanent : length (t .permanent) ≡ 9
+  pub present : length (t .present) ≡ parameterCount
+  pub permanent : length (t .permanent) ≡ parameterCount
 
 pub record SmallReader (r : Reader) : Type 0 where
   pub line : SmallHalves (r .line)
-  pub answered : Small (r .answered)
+  pub «last_answer» : Small (r .«last_answer»)
   pub table : SizedTable (r .device .table)
   pub sender : SmallSender (r .sender)
 
@@ -204,7 +237,7 @@ pub record PutsSender (s : Sender) (room room′ : List ℕ) : Type 0 where
   pub small : SmallSender s
 
 pub record ValuesIn (s r : List ℕ) : Type 0 where
-  pub is : r ≡ take 9 s
+  pub is : r ≡ take parameterCount s
 
 pub record TableIn (s : List ℕ) (r : Table) : Type 0 where
   pub is : r ≡ tableIn s

@@ -2,3 +2,4 @@ pub mod Control
 pub mod Lent
 pub mod Numbers
 pub mod Promises
+pub mod Refused

@@ -77,14 +77,9 @@ foundValues found.Nothing = noHead
 foundValues (found.Packet head) = headValues head
 foundValues (found.Refused r) = noHead
 
--- So many bytes stand in the room.
 abbrev pub builtNumber : Built → ℕ
 builtNumber (built.Written size) = 101
 builtNumber (built.Refused r) = numberOf r
-
-abbrev pub builtSize : Built → ℕ
-builtSize (built.Written size) = size
-builtSize (built.Refused r) = 0
 
 -- The hub: how many bytes stand in the answer room; of a message also its code type and how many bytes stand in the message room.
 abbrev pub hubNumber : Told → ℕ
@@ -116,12 +111,20 @@ outcomeValue (outcome.Delivered copies) = copies
 outcomeValue (outcome.Failed copies) = copies
 outcomeValue (outcome.Refused r) = 0
 
+-- Whether it is a refusal.
+abbrev pub isRefused : Outcome → Bool
+isRefused outcome.Nothing = false
+isRefused (outcome.Copy size) = false
+isRefused (outcome.Delivered copies) = false
+isRefused (outcome.Failed copies) = false
+isRefused (outcome.Refused r) = true
+
 -- Whether a message is out.
 abbrev pub waitsNumber : Bool → ℕ
 waitsNumber true = 123
 waitsNumber false = 0
 
--- The reader: how many bytes stand in the answer room; the row of Table 2-12 that is reported, duration, pitch and number of beeps, of
+-- The reader: how many bytes stand in the answer room; the row of §13 that is reported, duration, pitch and number of beeps, of
 -- which there are none where nothing sounds; then what its sender brought, number and value.
 abbrev pub readerNumber : Commanded → ℕ
 readerNumber commanded.Nothing = 0
@@ -177,9 +180,6 @@ pub record FoundValues (f : Found) (values : List ℕ) : Type 0 where
 pub record BuiltNumber (b : Built) (r : ℕ) : Type 0 where
   pub is : r ≡ builtNumber b
 
-pub record BuiltSize (b : Built) (r : ℕ) : Type 0 where
-  pub is : r ≡ builtSize b
-
 pub record HubNumber (t : Told) (r : ℕ) : Type 0 where
   pub is : r ≡ hubNumber t
 
@@ -191,6 +191,9 @@ pub record OutcomeNumber (o : Outcome) (r : ℕ) : Type 0 where
 
 pub record OutcomeValue (o : Outcome) (r : ℕ) : Type 0 where
   pub is : r ≡ outcomeValue o
+
+pub record OutcomeRefused (o : Outcome) (r : Bool) : Type 0 where
+  pub is : r ≡ isRefused o
 
 pub record WaitsNumber (out : Bool) (r : ℕ) : Type 0 where
   pub is : r ≡ waitsNumber out

@@ -7,37 +7,41 @@ use hub::Gathering;
 use hub::Hub;
 use reader::Reader;
 use sender::Sender;
-use table::ROWS;
+use table::PARAMETER_COUNT;
 use table::Table;
-ghost use Prim.Native.Nat.{_≤_};
+ghost use Prim.Native.Nat.{_*_, _≤_};
 ghost use mathlib.Core.List.{[], _∷_};
 ghost use lib.ListN.{length};
 ghost use Rattle.words.specs.Lists.{Over};
-ghost use Rattle.exports.specs.Control.{HalfIn, NumberIn, PutsHalf, PutsNumber, PutsTwo, FlagByte, PutsFlag, FramerIn, PutsFramer, HalvesIn, PutsHalves, GatheringIn, PutsGathering, HubIn, PutsHub, SenderIn, PutsSender, ValuesIn, TableIn, PutsTable, DeviceIn, PutsDevice, Switches, ReaderIn, PutsReader};
+ghost use Rattle.table.specs.Rows.{parameterCount};
+ghost use Rattle.exports.specs.Control.{halfSize, numberSize, framerControlSize, halvesSize, gatheringSize, hubControlSize, senderControlSize, tableSize, deviceSize, readerControlSize, HalfIn, NumberIn, PutsHalf, PutsNumber, PutsTwo, FlagByte, PutsFlag, FramerIn, PutsFramer, HalvesIn, PutsHalves, GatheringIn, PutsGathering, HubIn, PutsHub, SenderIn, PutsSender, ValuesIn, TableIn, PutsTable, DeviceIn, PutsDevice, Switches, ReaderIn, PutsReader};
 
 // The sizes, part by part.
-const NUMBER: usize = 8;
+const NUMBER_SIZE: usize = 8;
 
-pub const FRAMER: usize = NUMBER + 1;
+pub const FRAMER_CONTROL_SIZE: usize = NUMBER_SIZE + 1;
 
-const HALVES: usize = FRAMER + 1 + NUMBER;
+const HALVES_SIZE: usize = FRAMER_CONTROL_SIZE + 1 + NUMBER_SIZE;
 
-const GATHERING: usize = 3 + NUMBER;
+const GATHERING_SIZE: usize = 3 + NUMBER_SIZE;
 
-pub const HUB: usize = HALVES + GATHERING;
+pub const HUB_CONTROL_SIZE: usize = HALVES_SIZE + GATHERING_SIZE;
 
-pub const SENDER: usize = 3 + 4 * NUMBER;
+pub const SENDER_CONTROL_SIZE: usize = 3 + 4 * NUMBER_SIZE;
 
-const TABLE: usize = 2 * ROWS;
+const TABLE_SIZE: usize = 2 * PARAMETER_COUNT;
 
-const DEVICE: usize = TABLE + 4;
+const DEVICE_SIZE: usize = TABLE_SIZE + 4;
 
-pub const READER: usize = HALVES + NUMBER + DEVICE + SENDER;
+pub const READER_CONTROL_SIZE: usize = HALVES_SIZE
+    + NUMBER_SIZE
+    + DEVICE_SIZE
+    + SENDER_CONTROL_SIZE;
 
 // ---- numbers and flags
 
 fn half(s: &[u8]) -> usize
-    requires { ⌜ 4 ≤ length (now s) ⌝ }
+    requires { ⌜ halfSize ≤ length (now s) ⌝ }
     ensures { λ r. ⌜ HalfIn (now (s .entry)) r ⌝ }
 {
     let low = words::wide(s[0]) + words::wide(s[1]) * 256;
@@ -46,14 +50,14 @@ fn half(s: &[u8]) -> usize
 }
 
 fn number(s: &[u8]) -> usize
-    requires { ⌜ 8 ≤ length (now s) ⌝ }
+    requires { ⌜ numberSize ≤ length (now s) ⌝ }
     ensures { λ r. ⌜ NumberIn (now (s .entry)) r ⌝ }
 {
     half(s) + half(&s[4..]) * 4294967296
 }
 
 fn put_half(n: usize, room: &mut [u8])
-    requires { ⌜ 4 ≤ length (now room) ⌝ }
+    requires { ⌜ halfSize ≤ length (now room) ⌝ }
     ensures { λ _. ⌜ PutsHalf n (now (room .entry)) (now (room .exit)) ⌝ }
 {
     let a = (n % 256) as u8;
@@ -64,7 +68,7 @@ fn put_half(n: usize, room: &mut [u8])
 }
 
 fn put_number(n: usize, room: &mut [u8])
-    requires { ⌜ 8 ≤ length (now room) ⌝ }
+    requires { ⌜ numberSize ≤ length (now room) ⌝ }
     ensures { λ _. ⌜ PutsNumber n (now (room .entry)) (now (room .exit)) ⌝ }
 {
     put_half(n, room);
@@ -72,7 +76,7 @@ fn put_number(n: usize, room: &mut [u8])
 }
 
 fn put_two(a: usize, b: usize, room: &mut [u8])
-    requires { ⌜ 16 ≤ length (now room) ⌝ }
+    requires { ⌜ 2 * numberSize ≤ length (now room) ⌝ }
     ensures { λ _. ⌜ PutsTwo a b (now (room .entry)) (now (room .exit)) ⌝ }
 {
     put_number(a, room);
@@ -117,7 +121,7 @@ fn put_four(a: u8, b: u8, c: u8, d: u8, room: &mut [u8])
 // ---- the framer, alone and over two halves
 
 pub(crate) fn framer(s: &[u8]) -> Framer
-    requires { ⌜ 9 ≤ length (now s) ⌝ }
+    requires { ⌜ framerControlSize ≤ length (now s) ⌝ }
     ensures { λ r. ⌜ FramerIn (now (s .entry)) r ⌝ }
 {
     Framer {
@@ -127,7 +131,7 @@ pub(crate) fn framer(s: &[u8]) -> Framer
 }
 
 pub(crate) fn put_framer(framer: Framer, room: &mut [u8])
-    requires { ⌜ 9 ≤ length (now room) ⌝ }
+    requires { ⌜ framerControlSize ≤ length (now room) ⌝ }
     ensures { λ _. ⌜ PutsFramer framer (now (room .entry)) (now (room .exit)) ⌝ }
 {
     put_number(framer.count, room);
@@ -135,7 +139,7 @@ pub(crate) fn put_framer(framer: Framer, room: &mut [u8])
 }
 
 fn halves(s: &[u8]) -> Halves
-    requires { ⌜ 18 ≤ length (now s) ⌝ }
+    requires { ⌜ halvesSize ≤ length (now s) ⌝ }
     ensures { λ r. ⌜ HalvesIn (now (s .entry)) r ⌝ }
 {
     Halves {
@@ -146,7 +150,7 @@ fn halves(s: &[u8]) -> Halves
 }
 
 fn put_halves(halves: Halves, room: &mut [u8])
-    requires { ⌜ 18 ≤ length (now room) ⌝ }
+    requires { ⌜ halvesSize ≤ length (now room) ⌝ }
     ensures { λ _. ⌜ PutsHalves halves (now (room .entry)) (now (room .exit)) ⌝ }
 {
     let framer = halves.framer;
@@ -158,7 +162,7 @@ fn put_halves(halves: Halves, room: &mut [u8])
 // ---- the hub
 
 fn gathering(s: &[u8]) -> Gathering
-    requires { ⌜ 11 ≤ length (now s) ⌝ }
+    requires { ⌜ gatheringSize ≤ length (now s) ⌝ }
     ensures { λ r. ⌜ GatheringIn (now (s .entry)) r ⌝ }
 {
     Gathering {
@@ -170,7 +174,7 @@ fn gathering(s: &[u8]) -> Gathering
 }
 
 fn put_gathering(gathering: Gathering, room: &mut [u8])
-    requires { ⌜ 11 ≤ length (now room) ⌝ }
+    requires { ⌜ gatheringSize ≤ length (now room) ⌝ }
     ensures { λ _. ⌜ PutsGathering gathering (now (room .entry)) (now (room .exit)) ⌝ }
 {
     put_three(
@@ -183,7 +187,7 @@ fn put_gathering(gathering: Gathering, room: &mut [u8])
 }
 
 pub(crate) fn hub(s: &[u8]) -> Hub
-    requires { ⌜ 29 ≤ length (now s) ⌝ }
+    requires { ⌜ hubControlSize ≤ length (now s) ⌝ }
     ensures { λ r. ⌜ HubIn (now (s .entry)) r ⌝ }
 {
     Hub {
@@ -193,7 +197,7 @@ pub(crate) fn hub(s: &[u8]) -> Hub
 }
 
 pub(crate) fn put_hub(hub: Hub, room: &mut [u8])
-    requires { ⌜ 29 ≤ length (now room) ⌝ }
+    requires { ⌜ hubControlSize ≤ length (now room) ⌝ }
     ensures { λ _. ⌜ PutsHub hub (now (room .entry)) (now (room .exit)) ⌝ }
 {
     let line = hub.line;
@@ -205,7 +209,7 @@ pub(crate) fn put_hub(hub: Hub, room: &mut [u8])
 // ---- the sender
 
 pub(crate) fn sender(s: &[u8]) -> Sender
-    requires { ⌜ 35 ≤ length (now s) ⌝ }
+    requires { ⌜ senderControlSize ≤ length (now s) ⌝ }
     ensures { λ r. ⌜ SenderIn (now (s .entry)) r ⌝ }
 {
     Sender {
@@ -220,7 +224,7 @@ pub(crate) fn sender(s: &[u8]) -> Sender
 }
 
 pub(crate) fn put_sender(sender: Sender, room: &mut [u8])
-    requires { ⌜ 35 ≤ length (now room) ⌝ }
+    requires { ⌜ senderControlSize ≤ length (now room) ⌝ }
     ensures { λ _. ⌜ PutsSender sender (now (room .entry)) (now (room .exit)) ⌝ }
 {
     put_three(flag(sender.out), sender.code, flag(sender.failed), room);
@@ -230,15 +234,15 @@ pub(crate) fn put_sender(sender: Sender, room: &mut [u8])
 
 // ---- the reader
 
-fn values(s: &[u8]) -> [u8; ROWS]
-    requires { ⌜ 9 ≤ length (now s) ⌝ }
+fn values(s: &[u8]) -> [u8; PARAMETER_COUNT]
+    requires { ⌜ parameterCount ≤ length (now s) ⌝ }
     ensures { λ r. ⌜ ValuesIn (now (s .entry)) r ⌝ }
 {
     [s[0], s[1], s[2], s[3], s[4], s[5], s[6], s[7], s[8]]
 }
 
 fn table(s: &[u8]) -> Table
-    requires { ⌜ 18 ≤ length (now s) ⌝ }
+    requires { ⌜ tableSize ≤ length (now s) ⌝ }
     ensures { λ r. ⌜ TableIn (now (s .entry)) r ⌝ }
 {
     let present = values(s);
@@ -247,7 +251,7 @@ fn table(s: &[u8]) -> Table
 }
 
 fn put_table(table: Table, room: &mut [u8])
-    requires { ⌜ 18 ≤ length (now room) ⌝ }
+    requires { ⌜ tableSize ≤ length (now room) ⌝ }
     ensures { λ _. ⌜ PutsTable table (now (room .entry)) (now (room .exit)) ⌝ }
 {
     let present = table.present;
@@ -257,68 +261,70 @@ fn put_table(table: Table, room: &mut [u8])
 }
 
 fn device(s: &[u8]) -> Device
-    requires { ⌜ 22 ≤ length (now s) ⌝ }
+    requires { ⌜ deviceSize ≤ length (now s) ⌝ }
     ensures { λ r. ⌜ DeviceIn (now (s .entry)) r ⌝ }
 {
     let table = table(s);
-    Device {
-        table,
-        enabled: s[18] == 1,
+    let switches = commands::Switches {
+        scanning: s[18] == 1,
         session: s[19] == 1,
         aim: s[20] == 1,
         led: s[21] == 1,
-    }
+    };
+    Device { table, switches }
 }
 
 fn put_device(device: Device, room: &mut [u8])
-    requires { ⌜ 22 ≤ length (now room) ⌝ }
+    requires { ⌜ deviceSize ≤ length (now room) ⌝ }
     ensures { λ _. ⌜ PutsDevice device (now (room .entry)) (now (room .exit)) ⌝ }
 {
     let table = device.table;
-    let enabled = flag(device.enabled);
-    let session = flag(device.session);
-    let aim = flag(device.aim);
-    let led = flag(device.led);
+    let switches = device.switches;
+    let scanning = flag(switches.scanning);
+    let session = flag(switches.session);
+    let aim = flag(switches.aim);
+    let led = flag(switches.led);
     put_table(table, room);
-    put_four(enabled, session, aim, led, &mut room[18..]);
+    put_four(scanning, session, aim, led, &mut room[18..]);
 }
 
 // What is switched on: scanning, session, aim, LED.
 pub(crate) fn switches(device: Device, values: &mut [usize; 4])
     ensures { λ _. ⌜ Switches device (now (values .exit)) ⌝ }
 {
-    let enabled = words::wide(flag(device.enabled));
-    let session = words::wide(flag(device.session));
-    let aim = words::wide(flag(device.aim));
-    let led = words::wide(flag(device.led));
-    *values = [enabled, session, aim, led];
+    let switches = device.switches;
+    let scanning = words::wide(flag(switches.scanning));
+    let session = words::wide(flag(switches.session));
+    let aim = words::wide(flag(switches.aim));
+    let led = words::wide(flag(switches.led));
+    *values = [scanning, session, aim, led];
 }
 
 pub(crate) fn reader(s: &[u8]) -> Reader
-    requires { ⌜ 83 ≤ length (now s) ⌝ }
+    requires { ⌜ readerControlSize ≤ length (now s) ⌝ }
     ensures { λ r. ⌜ ReaderIn (now (s .entry)) r ⌝ }
 {
     let line = halves(s);
-    let answered = number(&s[18..]);
+    let last_answer = number(&s[18..]);
     let device = device(&s[26..]);
     let sender = sender(&s[48..]);
     Reader {
         line,
-        answered,
+        last_answer,
         device,
         sender,
     }
 }
 
 pub(crate) fn put_reader(reader: Reader, room: &mut [u8])
-    requires { ⌜ 83 ≤ length (now room) ⌝ }
+    requires { ⌜ readerControlSize ≤ length (now room) ⌝ }
     ensures { λ _. ⌜ PutsReader reader (now (room .entry)) (now (room .exit)) ⌝ }
 {
     let line = reader.line;
     let device = reader.device;
     let sender = reader.sender;
     put_halves(line, room);
-    put_number(reader.answered, &mut room[18..]);
+    put_number(reader.last_answer, &mut room[18..]);
     put_device(device, &mut room[26..]);
     put_sender(sender, &mut room[48..]);
 }

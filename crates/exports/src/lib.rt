@@ -4,14 +4,16 @@
 mod control;
 mod numbers;
 
-use control::FRAMER;
-use control::HUB;
-use control::READER;
-use control::SENDER;
+use control::FRAMER_CONTROL_SIZE;
+use control::HUB_CONTROL_SIZE;
+use control::READER_CONTROL_SIZE;
+use control::SENDER_CONTROL_SIZE;
 use hub::Hub;
 ghost use Prim.Native.Nat.{_≤_};
 ghost use mathlib.Core.Path.{_≡_};
 ghost use lib.ListN.{length};
+ghost use Rattle.packet.specs.Sizes.{messageSize};
+ghost use Rattle.exports.specs.Control.{hubControlSize};
 ghost use Rattle.exports.specs.Promises.{PacketChecks, PacketBuilds, PacketAnswers, FramerIdle, FramerHears, HubOn, HubHears, HubTakes, HubGoesOn, SenderIdle, SenderStarts, SenderHears, SenderWaits, SenderHeeds, ReaderOn, ReaderPowersUp, ReaderStarts, ReaderTimesOut, ReaderHears, ReaderValue, ReaderSwitches};
 
 // Lent room too small.
@@ -42,7 +44,7 @@ pub extern "C" fn mk_build(
     ensures { λ r. ⌜ PacketBuilds (now (room .entry)) opcode source status (now («data» .entry)) r (now (room .exit)) (now (size .exit)) ⌝ }
 {
     let built = packet::build(room, opcode, source, status, data);
-    *size = numbers::built_size(built);
+    *size = packet::size_of(built);
     numbers::built(built)
 }
 
@@ -52,7 +54,7 @@ pub extern "C" fn mk_answer(room: &mut [u8], source: u8, reply: u32, size: &mut 
     ensures { λ r. ⌜ PacketAnswers (now (room .entry)) source reply r (now (room .exit)) (now (size .exit)) ⌝ }
 {
     let built = packet::answer(room, source, numbers::reply(reply));
-    *size = numbers::built_size(built);
+    *size = packet::size_of(built);
     numbers::built(built)
 }
 
@@ -63,7 +65,7 @@ pub extern "C" fn mk_answer(room: &mut [u8], source: u8, reply: u32, size: &mut 
 pub extern "C" fn mk_framer_idle(control: &mut [u8]) -> u32
     ensures { λ r. ⌜ FramerIdle (now (control .entry)) r (now (control .exit)) ⌝ }
 {
-    if control.len() < FRAMER {
+    if control.len() < FRAMER_CONTROL_SIZE {
         return ROOM;
     }
     control::put_framer(framer::idle(), control);
@@ -80,11 +82,11 @@ pub extern "C" fn mk_framer_hear(
 ) -> u32
     ensures { λ r. ⌜ FramerHears (now (control .entry)) (now (line .entry)) event r (now (control .exit)) (now (line .exit)) (now (head .exit)) ⌝ }
 {
-    if control.len() < FRAMER {
+    if control.len() < FRAMER_CONTROL_SIZE {
         *head = [0; 4];
         return ROOM;
     }
-    if line.len() < framer::LINE {
+    if line.len() < packet::PACKET_SIZE {
         *head = [0; 4];
         return ROOM;
     }
@@ -103,7 +105,7 @@ pub extern "C" fn mk_framer_hear(
 pub extern "C" fn mk_hub_on(control: &mut [u8]) -> u32
     ensures { λ r. ⌜ HubOn (now (control .entry)) r (now (control .exit)) ⌝ }
 {
-    if control.len() < HUB {
+    if control.len() < HUB_CONTROL_SIZE {
         return ROOM;
     }
     control::put_hub(hub::switched_on(), control);
@@ -115,8 +117,8 @@ pub extern "C" fn mk_hub_on(control: &mut [u8]) -> u32
 #[no_mangle]
 pub extern "C" fn mk_hub_hear(
     control: &mut [u8],
-    line: &mut [u8; hub::LINE],
-    gather: &mut [u8; hub::MESSAGE],
+    line: &mut [u8; framer::LINE_SIZE],
+    gather: &mut [u8; packet::MESSAGE_SIZE],
     answer: &mut [u8],
     message: &mut [u8],
     event: u32,
@@ -124,15 +126,15 @@ pub extern "C" fn mk_hub_hear(
 ) -> u32
     ensures { λ r. ⌜ HubHears (now (control .entry)) (now (line .entry)) (now (gather .entry)) (now (answer .entry)) (now (message .entry)) event r (now (control .exit)) (now (line .exit)) (now (gather .exit)) (now (answer .exit)) (now (message .exit)) (now (values .exit)) ⌝ }
 {
-    if control.len() < HUB {
+    if control.len() < HUB_CONTROL_SIZE {
         *values = [0; 3];
         return ROOM;
     }
-    if answer.len() < hub::ANSWER {
+    if answer.len() < hub::HUB_ANSWER_SIZE {
         *values = [0; 3];
         return ROOM;
     }
-    if message.len() < hub::MESSAGE {
+    if message.len() < packet::MESSAGE_SIZE {
         *values = [0; 3];
         return ROOM;
     }
@@ -144,7 +146,7 @@ pub extern "C" fn mk_hub_hear(
 
 // The short way, for most bytes of a line: there is nothing to tell.
 fn hub_goes_on(hub: Hub, gather: &[u8], control: &mut [u8], values: &mut [usize; 3]) -> u32
-    requires { ⌜ (length (now gather) ≡ 4096) × (29 ≤ length (now control)) ⌝ }
+    requires { ⌜ (length (now gather) ≡ messageSize) × (hubControlSize ≤ length (now control)) ⌝ }
     ensures { λ r. ⌜ HubGoesOn hub (now (gather .entry)) (now (control .entry)) r (now (control .exit)) (now (values .exit)) ⌝ }
 {
     control::put_hub(hub, control);
@@ -154,17 +156,17 @@ fn hub_goes_on(hub: Hub, gather: &[u8], control: &mut [u8], values: &mut [usize;
 
 fn hub_hears(
     control: &mut [u8],
-    line: &mut [u8; hub::LINE],
-    gather: &mut [u8; hub::MESSAGE],
+    line: &mut [u8; framer::LINE_SIZE],
+    gather: &mut [u8; packet::MESSAGE_SIZE],
     answer: &mut [u8],
     message: &mut [u8],
     event: u32,
     values: &mut [usize; 3],
 ) -> u32
-    requires { ⌜ 29 ≤ length (now control) ⌝ }
+    requires { ⌜ hubControlSize ≤ length (now control) ⌝ }
     ensures { λ r. ⌜ HubTakes (now (control .entry)) (now (line .entry)) (now (gather .entry)) (now (answer .entry)) (now (message .entry)) event r (now (control .exit)) (now (line .exit)) (now (gather .exit)) (now (answer .exit)) (now (message .exit)) (now (values .exit)) ⌝ }
 {
-    let answered = hub::hear(
+    let taken = hub::hear(
         control::hub(control),
         line,
         gather,
@@ -172,10 +174,10 @@ fn hub_hears(
         message,
         numbers::event(event),
     );
-    let next = answered.hub;
-    let told = answered.told;
+    let next = taken.hub;
+    let told = taken.told;
     control::put_hub(next, control);
-    numbers::hub_values(told, answered.answer, values);
+    numbers::hub_values(told, taken.answer, values);
     numbers::hub(told)
 }
 
@@ -186,18 +188,18 @@ fn hub_hears(
 pub extern "C" fn mk_sender_idle(control: &mut [u8], failed: bool) -> u32
     ensures { λ r. ⌜ SenderIdle (now (control .entry)) failed r (now (control .exit)) ⌝ }
 {
-    if control.len() < SENDER {
+    if control.len() < SENDER_CONTROL_SIZE {
         return ROOM;
     }
     control::put_sender(sender::idle(failed), control);
     0
 }
 
-// Starts a message: 120 and the size of the copy that stands in the room, or a refusal.
+// Starts a message: 120 and the size of the copy that stands in the room, or a refusal, which leaves the control bytes alone.
 #[no_mangle]
 pub extern "C" fn mk_sender_start(
     control: &mut [u8],
-    buffer: &mut [u8; sender::MESSAGE],
+    buffer: &mut [u8; packet::MESSAGE_SIZE],
     room: &mut [u8],
     code: u8,
     message: &[u8],
@@ -205,19 +207,22 @@ pub extern "C" fn mk_sender_start(
 ) -> u32
     ensures { λ r. ⌜ SenderStarts (now (control .entry)) (now (buffer .entry)) (now (room .entry)) code (now (message .entry)) r (now (control .exit)) (now (buffer .exit)) (now (room .exit)) (now (value .exit)) ⌝ }
 {
-    if control.len() < SENDER {
+    if control.len() < SENDER_CONTROL_SIZE {
         *value = 0;
         return ROOM;
     }
-    if room.len() < sender::ROOM {
+    if room.len() < packet::PACKET_SIZE {
         *value = 0;
         return ROOM;
     }
     let sending = sender::start(control::sender(control), buffer, room, code, message);
     let next = sending.sender;
     let outcome = sending.outcome;
-    control::put_sender(next, control);
     *value = numbers::outcome_value(outcome);
+    if numbers::refused(outcome) {
+        return numbers::outcome(outcome);
+    }
+    control::put_sender(next, control);
     numbers::outcome(outcome)
 }
 
@@ -225,18 +230,18 @@ pub extern "C" fn mk_sender_start(
 #[no_mangle]
 pub extern "C" fn mk_sender_hear(
     control: &mut [u8],
-    buffer: &[u8; sender::MESSAGE],
+    buffer: &[u8; packet::MESSAGE_SIZE],
     room: &mut [u8],
     heard: u32,
     value: &mut usize,
 ) -> u32
     ensures { λ r. ⌜ SenderHears (now (control .entry)) (now (buffer .entry)) (now (room .entry)) heard r (now (control .exit)) (now (room .exit)) (now (value .exit)) ⌝ }
 {
-    if control.len() < SENDER {
+    if control.len() < SENDER_CONTROL_SIZE {
         *value = 0;
         return ROOM;
     }
-    if room.len() < sender::ROOM {
+    if room.len() < packet::PACKET_SIZE {
         *value = 0;
         return ROOM;
     }
@@ -258,7 +263,7 @@ pub extern "C" fn mk_sender_hear(
 pub extern "C" fn mk_sender_waits(control: &[u8]) -> u32
     ensures { λ r. ⌜ SenderWaits (now (control .entry)) r ⌝ }
 {
-    if control.len() < SENDER {
+    if control.len() < SENDER_CONTROL_SIZE {
         return ROOM;
     }
     if sender::waits(control::sender(control)) {
@@ -272,7 +277,7 @@ pub extern "C" fn mk_sender_waits(control: &[u8]) -> u32
 pub extern "C" fn mk_sender_heed(opcode: u8, source: u8, status: u8, data: &[u8]) -> u32
     ensures { λ r. ⌜ SenderHeeds opcode source status (now («data» .entry)) r ⌝ }
 {
-    numbers::heard_number(sender::heed(opcode, source, status, data))
+    numbers::heard_number(sender::heed(packet::HOST, opcode, source, status, data))
 }
 
 // ---- the reader's whole end
@@ -282,7 +287,7 @@ pub extern "C" fn mk_sender_heed(opcode: u8, source: u8, status: u8, data: &[u8]
 pub extern "C" fn mk_reader_on(control: &mut [u8]) -> u32
     ensures { λ r. ⌜ ReaderOn (now (control .entry)) r (now (control .exit)) ⌝ }
 {
-    if control.len() < READER {
+    if control.len() < READER_CONTROL_SIZE {
         return ROOM;
     }
     let table = table::defaults();
@@ -295,7 +300,7 @@ pub extern "C" fn mk_reader_on(control: &mut [u8]) -> u32
 pub extern "C" fn mk_reader_power_up(control: &mut [u8]) -> u32
     ensures { λ r. ⌜ ReaderPowersUp (now (control .entry)) r (now (control .exit)) ⌝ }
 {
-    if control.len() < READER {
+    if control.len() < READER_CONTROL_SIZE {
         return ROOM;
     }
     let next = reader::power_up(control::reader(control));
@@ -303,11 +308,12 @@ pub extern "C" fn mk_reader_power_up(control: &mut [u8]) -> u32
     0
 }
 
-// Starts a message: 120 and the size of the copy that stands in the copy room, or a refusal.
+// Starts a message: 120 and the size of the copy that stands in the copy room, or a refusal, which leaves the control bytes
+// alone.
 #[no_mangle]
 pub extern "C" fn mk_reader_start(
     control: &mut [u8],
-    message: &mut [u8; sender::MESSAGE],
+    message: &mut [u8; packet::MESSAGE_SIZE],
     copy: &mut [u8],
     code: u8,
     bytes: &[u8],
@@ -315,19 +321,22 @@ pub extern "C" fn mk_reader_start(
 ) -> u32
     ensures { λ r. ⌜ ReaderStarts (now (control .entry)) (now (message .entry)) (now (copy .entry)) code (now (bytes .entry)) r (now (control .exit)) (now (message .exit)) (now (copy .exit)) (now (value .exit)) ⌝ }
 {
-    if control.len() < READER {
+    if control.len() < READER_CONTROL_SIZE {
         *value = 0;
         return ROOM;
     }
-    if copy.len() < sender::ROOM {
+    if copy.len() < packet::PACKET_SIZE {
         *value = 0;
         return ROOM;
     }
     let started = reader::start(control::reader(control), message, copy, code, bytes);
     let next = started.reader;
     let outcome = started.outcome;
-    control::put_reader(next, control);
     *value = numbers::outcome_value(outcome);
+    if numbers::refused(outcome) {
+        return numbers::outcome(outcome);
+    }
+    control::put_reader(next, control);
     numbers::outcome(outcome)
 }
 
@@ -335,17 +344,17 @@ pub extern "C" fn mk_reader_start(
 #[no_mangle]
 pub extern "C" fn mk_reader_time_out(
     control: &mut [u8],
-    message: &[u8; sender::MESSAGE],
+    message: &[u8; packet::MESSAGE_SIZE],
     copy: &mut [u8],
     value: &mut usize,
 ) -> u32
     ensures { λ r. ⌜ ReaderTimesOut (now (control .entry)) (now (message .entry)) (now (copy .entry)) r (now (control .exit)) (now (copy .exit)) (now (value .exit)) ⌝ }
 {
-    if control.len() < READER {
+    if control.len() < READER_CONTROL_SIZE {
         *value = 0;
         return ROOM;
     }
-    if copy.len() < sender::ROOM {
+    if copy.len() < packet::PACKET_SIZE {
         *value = 0;
         return ROOM;
     }
@@ -362,9 +371,9 @@ pub extern "C" fn mk_reader_time_out(
 #[no_mangle]
 pub extern "C" fn mk_reader_hear(
     control: &mut [u8],
-    line: &mut [u8; reader::LINE],
-    answers: &mut [u8; reader::ANSWER],
-    message: &[u8; sender::MESSAGE],
+    line: &mut [u8; framer::LINE_SIZE],
+    answers: &mut [u8; reader::READER_ANSWER_SIZE],
+    message: &[u8; packet::MESSAGE_SIZE],
     answer: &mut [u8],
     copy: &mut [u8],
     event: u32,
@@ -372,20 +381,20 @@ pub extern "C" fn mk_reader_hear(
 ) -> u32
     ensures { λ r. ⌜ ReaderHears (now (control .entry)) (now (line .entry)) (now (answers .entry)) (now (message .entry)) (now (answer .entry)) (now (copy .entry)) event r (now (control .exit)) (now (line .exit)) (now (answers .exit)) (now (answer .exit)) (now (copy .exit)) (now (values .exit)) ⌝ }
 {
-    if control.len() < READER {
+    if control.len() < READER_CONTROL_SIZE {
         *values = [0; 6];
         return ROOM;
     }
-    if answer.len() < reader::ANSWER {
+    if answer.len() < reader::READER_ANSWER_SIZE {
         *values = [0; 6];
         return ROOM;
     }
-    if copy.len() < sender::ROOM {
+    if copy.len() < packet::PACKET_SIZE {
         *values = [0; 6];
         return ROOM;
     }
     let before = control::reader(control);
-    let answered = reader::hear(
+    let taken = reader::hear(
         before,
         line,
         answers,
@@ -394,11 +403,11 @@ pub extern "C" fn mk_reader_hear(
         copy,
         numbers::event(event),
     );
-    let next = answered.reader;
-    let told = answered.told;
-    let outcome = answered.outcome;
+    let next = taken.reader;
+    let told = taken.told;
+    let outcome = taken.outcome;
     control::put_reader(next, control);
-    numbers::reader_values(told, answered.answer, outcome, values);
+    numbers::reader_values(told, taken.answer, outcome, values);
     numbers::reader(told)
 }
 
@@ -407,7 +416,7 @@ pub extern "C" fn mk_reader_hear(
 pub extern "C" fn mk_reader_value(control: &[u8], number: u8, value: &mut usize) -> u32
     ensures { λ r. ⌜ ReaderValue (now (control .entry)) number r (now (value .exit)) ⌝ }
 {
-    if control.len() < READER {
+    if control.len() < READER_CONTROL_SIZE {
         *value = 0;
         return ROOM;
     }
@@ -423,7 +432,7 @@ pub extern "C" fn mk_reader_value(control: &[u8], number: u8, value: &mut usize)
 pub extern "C" fn mk_reader_switches(control: &[u8], values: &mut [usize; 4]) -> u32
     ensures { λ r. ⌜ ReaderSwitches (now (control .entry)) r (now (values .exit)) ⌝ }
 {
-    if control.len() < READER {
+    if control.len() < READER_CONTROL_SIZE {
         *values = [0; 4];
         return ROOM;
     }

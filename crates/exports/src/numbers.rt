@@ -9,7 +9,7 @@ use packet::Refusal;
 use packet::Reply;
 use sender::Heard;
 use sender::Outcome;
-ghost use Rattle.exports.specs.Numbers.{EventOf, HeardOf, HeardNumber, ReplyOf, RefusalNumber, HeadValues, CheckedNumber, CheckedValues, FoundNumber, FoundValues, BuiltNumber, BuiltSize, HubNumber, HubValues, OutcomeNumber, OutcomeValue, ReaderNumber, RowOf, ReaderRow, ReaderValues};
+ghost use Rattle.exports.specs.Numbers.{EventOf, HeardOf, HeardNumber, ReplyOf, RefusalNumber, HeadValues, CheckedNumber, CheckedValues, FoundNumber, FoundValues, BuiltNumber, HubNumber, HubValues, OutcomeNumber, OutcomeValue, OutcomeRefused, ReaderNumber, RowOf, ReaderRow, ReaderValues};
 
 // ---- what goes in
 
@@ -114,15 +114,6 @@ pub(crate) fn built(built: Built) -> u32
     }
 }
 
-pub(crate) fn built_size(built: Built) -> usize
-    ensures { λ r. ⌜ BuiltSize built r ⌝ }
-{
-    match built {
-        Built::Written(size) => size,
-        Built::Refused(_) => 0,
-    }
-}
-
 pub(crate) fn hub(told: hub::Told) -> u32
     ensures { λ r. ⌜ HubNumber told r ⌝ }
 {
@@ -171,6 +162,18 @@ pub(crate) fn outcome_value(outcome: Outcome) -> usize
         Outcome::Delivered(copies) => copies,
         Outcome::Failed(copies) => copies,
         Outcome::Refused(_) => 0,
+    }
+}
+
+pub(crate) fn refused(outcome: Outcome) -> bool
+    ensures { λ r. ⌜ OutcomeRefused outcome r ⌝ }
+{
+    match outcome {
+        Outcome::Nothing => false,
+        Outcome::Copy(_) => false,
+        Outcome::Delivered(_) => false,
+        Outcome::Failed(_) => false,
+        Outcome::Refused(_) => true,
     }
 }
 

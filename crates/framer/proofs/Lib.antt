@@ -1,7 +1,10 @@
 pub mod Behind
 pub mod Outcomes
 pub mod Quick
+pub mod Refusing
+pub mod ShortWay
 pub mod Steps
 pub mod Theorems
+pub mod Touching
 pub mod TwoHalves
 pub mod Unique

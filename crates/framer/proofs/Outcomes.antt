@@ -11,6 +11,7 @@ use Rattle.words.specs.Lists.{pick, Bytes, over}
 use Rattle.words.specs.Machine.{Done}
 use Rattle.words.proofs.Lists.{never}
 use Rattle.packet.specs.Packet.{bodyIn, headIn, checksumIn, checksumOf, checkOf}
+use Rattle.packet.specs.Sizes.{bodySize, packetSize}
 use Rattle.packet.specs.declared.Refusal.{Refusal}
 use Rattle.packet.specs.declared.Refusal.the-variants.{Length, Checksum, Cut}
 use Rattle.packet.specs.declared.Head.{Head}
@@ -83,7 +84,7 @@ pub record Whole (line : List ℕ) (h : Head) (d : Done Line Heard) : Type 0 whe
   pub told-is : d .told ≡ packet (take (h .length) line) ∷ []
   pub idle : d .next ≡ hearing []
   pub least : 4 ≤ h .length
-  pub most : h .length ≤ 255
+  pub most : h .length ≤ bodySize
 
 pub told-packet : {l : Line} {e : Event} {d : Done Line Heard} {h : Head} (line : List ℕ) → Brings l e d → Bytes (storedOf e l line) → foundOf (d .told) ≡ Packet h →
     Whole (storedOf e l line) h d
@@ -105,7 +106,7 @@ told-packet {h = h} line (whole {got} {b} f) bytes q =
     record { told-is = rw (long, take-append-le n s (drop (length s) line) (omega arith)) refl; idle = refl; least = omega arith; most = omega arith }
 
 -- The same for one event of a framer whose line buffer is long enough.
-module _ {f : Framer} {line : List ℕ} {e : Event} {r : Framed} {line′ : List ℕ} (h : 257 ≤ length line) (k : Frames f line e r line′) (bytes : Bytes line′) where
+module _ {f : Framer} {line : List ℕ} {e : Event} {r : Framed} {line′ : List ℕ} (h : packetSize ≤ length line) (k : Frames f line e r line′) (bytes : Bytes line′) where
   pub found-is : foundOf (framerStep (lineOf f line) e .told) ≡ r .found
   found-is = sym (ap (λ (q : Framed). q .found) (k .is ∙ enough f line e h))
 

@@ -9,9 +9,10 @@ use lib.Seq.{getD-take, getD-set-other}
 use borrow.Author.Tests.{le-leb, lt-leb, lt-ltb, le-ltb}
 use Rattle.words.specs.Lists.{pick, Bytes, Wide}
 use Rattle.words.proofs.Lists.{never}
+use Rattle.packet.specs.Sizes.{packetSize}
 use Rattle.packet.proofs.Theorems.{few-cut}
-use Rattle.framer.specs.Promises.{begunOf, Begun}
-use Rattle.framer.specs.Halves.{placeOf, halfOf, insideOf, goesOn, GoesOn, on, left, Listens, Inside, Place, Last}
+use Rattle.framer.specs.Promises.{begunOf, Begun, Deaf}
+use Rattle.framer.specs.Halves.{lineSize, placeOf, halfOf, insideOf, goesOn, GoesOn, on, left, Listens, Inside, Moved, Place}
 use Rattle.framer.specs.declared.Event.{Event}
 use Rattle.framer.specs.declared.Event.the-variants.{Byte, CharacterGap, MessageGap}
 use Rattle.framer.specs.declared.Found.the-variants.{Nothing}
@@ -45,7 +46,7 @@ module _ {f : Framer} {line : List ℕ} {b n : ℕ} (begun : Begun f n) where
             left = λ e. refl;
           }
 
-      pub inside-stored : n ≤ w → 257 ≤ length line → f .deaf ≡ false → Inside f line b (n + 1) (set line n b)
+      pub inside-stored : n ≤ w → packetSize ≤ length line → f .deaf ≡ false → Inside f line b (n + 1) (set line n b)
       unfolding insideOf
       inside-stored l long hears =
           let most = begun .most in
@@ -72,33 +73,34 @@ left-by false m r e z = refl
 whole-again : (a k : ℕ) (s : List ℕ) → take a s ++ (take k (drop a s) ++ drop k (drop a s)) ≡ s
 whole-again a k s = rw (take-append-drop k (drop a s)) (take-append-drop a s)
 
-pub carry-deaf : {h : Halves} {buffer : List ℕ} {b n : ℕ} → length buffer ≡ 514 → Bytes buffer → h .framer .deaf ≡ true → Last h n →
-    GoesOn h buffer (Byte b) (On (record { framer = record { count = 0; deaf = true }; second = h .second; last = n })) buffer
+pub carry-deaf : {h h′ : Halves} {f : Framer} {buffer : List ℕ} {b : ℕ} → length buffer ≡ lineSize → Bytes buffer → h .framer .deaf ≡ true → Deaf f → Moved h f h′ →
+    GoesOn h buffer (Byte b) (On h′) buffer
 unfolding goesOn
-carry-deaf {h} {buffer} {b} {n} long bytes e l =
+carry-deaf {h} {buffer = buffer} {b} long bytes e d m =
     let a = placeOf (h .second) in
     let place : Place (h .second) a = record { is = refl; most = place-most (h .second) } in
     let most = place .most in
-    let back : take a buffer ++ (take (a + 257 - a) (drop a buffer) ++ drop (a + 257 - a) (drop a buffer)) ≡ buffer = whole-again a (a + 257 - a) buffer in
-    on (simp e) (rw back at (listens {buffer = buffer} {e = Byte b} long place l (byte-deaf (simp (length-take, length-drop) (omega arith)) e) (rw back bytes)))
+    let back : take a buffer ++ (take (a + packetSize - a) (drop a buffer) ++ drop (a + packetSize - a) (drop a buffer)) ≡ buffer = whole-again a (a + packetSize - a) buffer in
+    on (simp e) (rw back at (listens {buffer = buffer} {e = Byte b} long place m (byte-deaf (simp (length-take, length-drop) (omega arith)) e d) (rw back bytes)))
 
-pub carry-on : {h : Halves} {buffer half : List ℕ} {b a n r : ℕ} → length buffer ≡ 514 → h .framer .deaf ≡ false → Place (h .second) a → Last h n →
-    Inside (h .framer) (take (a + 257 - a) (drop a buffer)) b r half → (r ≡ 0 → ⊥) → Bytes (take a buffer ++ (half ++ drop (a + 257 - a) (drop a buffer))) →
-    GoesOn h buffer (Byte b) (On (record { framer = record { count = r; deaf = false }; second = h .second; last = n })) (take a buffer ++ (half ++ drop (a + 257 - a) (drop a buffer)))
+pub carry-on : {h h′ : Halves} {buffer half : List ℕ} {b a r : ℕ} → length buffer ≡ lineSize → h .framer .deaf ≡ false → Place (h .second) a →
+    Moved h (record { count = r; deaf = false }) h′ →
+    Inside (h .framer) (take (a + packetSize - a) (drop a buffer)) b r half → (r ≡ 0 → ⊥) → Bytes (take a buffer ++ (half ++ drop (a + packetSize - a) (drop a buffer))) →
+    GoesOn h buffer (Byte b) (On h′) (take a buffer ++ (half ++ drop (a + packetSize - a) (drop a buffer)))
 unfolding goesOn halfOf
-carry-on {h} {buffer} {half} {b} {a} {n} {r} long e p l k some bytes =
-    let size : a + 257 - a ≡ 257 = omega arith in
-    let goes : insideOf (h .framer) (take (a + 257 - a) (drop a buffer)) ≡ true = inside-by (insideOf (h .framer) (take (a + 257 - a) (drop a buffer))) (begunOf (h .framer)) r (k .is) some in
-    on (simp e (rw (sym (p .is), sym size) goes)) (listens long p l (k .frames some) bytes)
+carry-on {h} {buffer = buffer} {half} {b} {a} {r} long e p m k some bytes =
+    let size : a + packetSize - a ≡ packetSize = omega arith in
+    let goes : insideOf (h .framer) (take (a + packetSize - a) (drop a buffer)) ≡ true = inside-by (insideOf (h .framer) (take (a + packetSize - a) (drop a buffer))) (begunOf (h .framer)) r (k .is) some in
+    on (simp e (rw (sym (p .is), sym size) goes)) (listens long p m (k .frames some) bytes)
 
-pub carry-left : {h : Halves} {buffer half : List ℕ} {b a r : ℕ} → length buffer ≡ 514 → h .framer .deaf ≡ false → Place (h .second) a →
-    Inside (h .framer) (take (a + 257 - a) (drop a buffer)) b r half → r ≡ 0 →
-    GoesOn h buffer (Byte b) Left (take a buffer ++ (half ++ drop (a + 257 - a) (drop a buffer)))
+pub carry-left : {h : Halves} {buffer half : List ℕ} {b a r : ℕ} → length buffer ≡ lineSize → h .framer .deaf ≡ false → Place (h .second) a →
+    Inside (h .framer) (take (a + packetSize - a) (drop a buffer)) b r half → r ≡ 0 →
+    GoesOn h buffer (Byte b) Left (take a buffer ++ (half ++ drop (a + packetSize - a) (drop a buffer)))
 unfolding goesOn halfOf
 carry-left {h} {buffer} {half} {b} {a} {r} long e p k none =
-    let size : a + 257 - a ≡ 257 = omega arith in
-    let goes : insideOf (h .framer) (take (a + 257 - a) (drop a buffer)) ≡ false = left-by (insideOf (h .framer) (take (a + 257 - a) (drop a buffer))) (begunOf (h .framer)) r (k .is) none in
-    left {buffer′ = take a buffer ++ (half ++ drop (a + 257 - a) (drop a buffer))} (simp e (rw (sym (p .is), sym size) goes)) (rw (k .left none) (whole-again a (a + 257 - a) buffer))
+    let size : a + packetSize - a ≡ packetSize = omega arith in
+    let goes : insideOf (h .framer) (take (a + packetSize - a) (drop a buffer)) ≡ false = left-by (insideOf (h .framer) (take (a + packetSize - a) (drop a buffer))) (begunOf (h .framer)) r (k .is) none in
+    left {buffer′ = take a buffer ++ (half ++ drop (a + packetSize - a) (drop a buffer))} (simp e (rw (sym (p .is), sym size) goes)) (rw (k .left none) (whole-again a (a + packetSize - a) buffer))
 
 -- ---- the events
 

@@ -4,14 +4,15 @@ use mathlib.Core.Path.{_≡_, refl, sym, ap, _∙_}
 use mathlib.Core.Bool.{Bool, true, false}
 use mathlib.Core.List.{List, [], _∷_, _++_, map, append-assoc, append-nil}
 use native.Mathlib.Omega.{arith}
-use lib.Dec.{eqb, leb}
+use lib.Dec.{eqb, ltb}
 use lib.ListN.{length, getD, take, length-append, length-take, List·getD-append}
-use borrow.Author.Tests.{le-leb, leb-true, eqb-true}
+use borrow.Author.Tests.{lt-ltb, ltb-true, eqb-true}
 use Rattle.words.specs.Lists.{pick, Bytes, over}
 use Rattle.words.specs.Machine.{after, through}
 use Rattle.words.proofs.Lists.{take-over, length-over}
 use Rattle.packet.specs.Packet.{seal, bodyIn, headIn, checkOf}
 use Rattle.packet.specs.Refusals.{numberOf}
+use Rattle.packet.specs.Sizes.{packetSize}
 use Rattle.packet.specs.declared.Refusal.{Refusal}
 use Rattle.packet.specs.declared.Refusal.the-variants.{Cut}
 use Rattle.packet.specs.declared.Checked.{Checked}
@@ -82,9 +83,9 @@ found-behind-gap l b k = rw (gap-idle l, packet-found b k) refl
 
 -- ---- the control value and the line buffer afterwards
 
-view-hearing : (s line : List ℕ) → length s ≤ 256 → lineOf (controlOf (hearing s)) (over s line) ≡ hearing s
+view-hearing : (s line : List ℕ) → length s < packetSize → lineOf (controlOf (hearing s)) (over s line) ≡ hearing s
 unfolding lineOf begunOf
-view-hearing s line h = simp (le-leb (length s) 256 h, take-over s line (length s) refl)
+view-hearing s line h = simp (lt-ltb (length s) packetSize h, take-over s line (length s) refl)
 
 view-idle : (line : List ℕ) → lineOf (controlOf (hearing [])) line ≡ hearing []
 unfolding lineOf begunOf
@@ -94,21 +95,21 @@ view-deaf : (line : List ℕ) → lineOf (controlOf deaf) line ≡ deaf
 unfolding lineOf
 view-deaf line = refl
 
-view-refused : (s line : List ℕ) (x : Refusal) (d : Bool) → eqb (numberOf x) 3 ≡ d → checkOf s ≡ checked.Refused x → getD s 0 0 < 256 → length s ≤ 257 →
+view-refused : (s line : List ℕ) (x : Refusal) (d : Bool) → eqb (numberOf x) 3 ≡ d → checkOf s ≡ checked.Refused x → getD s 0 0 < 256 → length s ≤ packetSize →
     lineOf (controlOf (judged s (checked.Refused x) .next)) (over s line) ≡ judged s (checked.Refused x) .next
 unfolding judged
 view-refused s line x true e f b h = let n = turned s f .cut (eqb-true (numberOf x) 3 e) in simp e (view-hearing s line (omega arith))
 view-refused s line x false e f b h = simp e (view-deaf (over s line))
 
-view-judged : (s line : List ℕ) (r : Checked) → checkOf s ≡ r → getD s 0 0 < 256 → length s ≤ 257 →
+view-judged : (s line : List ℕ) (r : Checked) → checkOf s ≡ r → getD s 0 0 < 256 → length s ≤ packetSize →
     lineOf (controlOf (judged s r .next)) (over s line) ≡ judged s r .next
 unfolding judged
 view-judged s line (checked.Packet head) f b h = view-idle (over s line)
 view-judged s line (checked.Refused x) f b h = view-refused s line x (eqb (numberOf x) 3) refl f b h
 
--- At most 256 bytes are begun.
+-- Fewer bytes are begun than a packet can have.
 abbrev pub Short : Line → Type 0
-Short (hearing got) = length got ≤ 256
+Short (hearing got) = length got < packetSize
 Short deaf = Unit {0}
 
 first-over : (got line : List ℕ) (b : ℕ) → getD (over (got ++ (b ∷ [])) line) 0 0 ≡ getD (got ++ (b ∷ [])) 0 0
@@ -127,25 +128,25 @@ view-step l line MessageGap h k = rw (gap-idle l) (view-idle line)
 
 line-short : (f : Framer) (line : List ℕ) → Short (lineOf f line)
 unfolding lineOf begunOf
-line-short f line = by (f .deaf) (leb (f .count) 256) refl
+line-short f line = by (f .deaf) (ltb (f .count) packetSize) refl
   where
-    by : (d c : Bool) → leb (f .count) 256 ≡ c → Short (pick d deaf (hearing (take (pick c (f .count) 0) line)))
+    by : (d c : Bool) → ltb (f .count) packetSize ≡ c → Short (pick d deaf (hearing (take (pick c (f .count) 0) line)))
     by true c e = tt
-    by false true e = let m = leb-true (f .count) 256 e in simp length-take (omega arith)
+    by false true e = let m = ltb-true (f .count) packetSize e in simp length-take (omega arith)
     by false false e = omega arith
 
 -- What control value and line buffer stand for afterwards is the next state.
-pub view-after : (f : Framer) (line : List ℕ) (e : Event) → 257 ≤ length line → Bytes (lineAfter f line e) →
+pub view-after : (f : Framer) (line : List ℕ) (e : Event) → packetSize ≤ length line → Bytes (lineAfter f line e) →
     lineOf (framedOf f line e .framer) (lineAfter f line e) ≡ framerStep (lineOf f line) e .next
 view-after f line e h k = rw (enough f line e h, stored f line e h) (view-step (lineOf f line) line e (line-short f line) (rw (stored f line e h) at k))
 
 -- The line buffer keeps its length.
-length-stored : (l : Line) (line : List ℕ) (e : Event) → Short l → 257 ≤ length line → length (storedOf e l line) ≡ length line
+length-stored : (l : Line) (line : List ℕ) (e : Event) → Short l → packetSize ≤ length line → length (storedOf e l line) ≡ length line
 unfolding storedOf
 length-stored (hearing got) line (Byte b) s h = length-over (got ++ (b ∷ [])) line (simp length-append (omega arith))
 length-stored deaf line (Byte b) s h = refl
 length-stored l line CharacterGap s h = refl
 length-stored l line MessageGap s h = refl
 
-pub length-after : (f : Framer) (line : List ℕ) (e : Event) → 257 ≤ length line → length (lineAfter f line e) ≡ length line
+pub length-after : (f : Framer) (line : List ℕ) (e : Event) → packetSize ≤ length line → length (lineAfter f line e) ≡ length line
 length-after f line e h = rw (stored f line e h) (length-stored (lineOf f line) line e (line-short f line) h)

@@ -12,6 +12,7 @@ use borrow.Author.Tests.{le-leb, lt-leb, leb-true}
 use Rattle.words.specs.Lists.{pick, Bytes}
 use Rattle.words.specs.Machine.{Done}
 use Rattle.words.proofs.Lists.{bytes-take, bytes-drop}
+use Rattle.packet.specs.Sizes.{bodySize, packetSize}
 use Rattle.packet.specs.declared.Refusal.{Refusal}
 use Rattle.packet.specs.declared.Head.{Head}
 use Rattle.framer.specs.Framer.{Line, hearing, Heard, packet, refused, framerStep}
@@ -21,7 +22,7 @@ use Rattle.framer.proofs.Outcomes.{brings, found-is, view-is, view-idle
 use Rattle.framer.proofs.Steps.{stored}
 use Rattle.framer.proofs.Theorems.{length-after}
 use Rattle.framer.specs.Promises.{foundOf, framedOf, lineAfter, Idle, Frames}
-use Rattle.framer.specs.Halves.{placeOf, halfOf, lastOf, lineIn, keptIn, acceptedOf, receivedIn, listenedOf, bufferAfter, IdleHalves, Listens, Received, Kept, Place, Last}
+use Rattle.framer.specs.Halves.{lineSize, placeOf, halfOf, lastOf, lineIn, keptIn, acceptedOf, receivedIn, listenedOf, bufferAfter, IdleHalves, Listens, Received, Kept, Moved, Place, Last}
 use Rattle.framer.specs.declared.Event.{Event}
 use Rattle.framer.specs.declared.Framer.{Framer}
 use Rattle.framer.specs.declared.Framed.{Framed}
@@ -30,7 +31,7 @@ use Rattle.framer.specs.declared.Halves.{Halves}
 pub idle-halves-is : {i : Framer} → Idle i → IdleHalves (record { framer = i; second = false; last = 0 })
 idle-halves-is k = record { is = rw (k .is) refl }
 
-pub place-second : {s : Bool} → s ≡ true → Place s 257
+pub place-second : {s : Bool} → s ≡ true → Place s packetSize
 unfolding placeOf
 place-second e = record { is = simp e; most = omega arith }
 
@@ -38,13 +39,13 @@ pub place-first : {s : Bool} → s ≡ false → Place s 0
 unfolding placeOf
 place-first e = record { is = simp e; most = omega arith }
 
-pub last-some : {h : Halves} → h .last ≤ 255 → Last h (h .last)
+pub last-some : {h : Halves} → h .last ≤ bodySize → Last h (h .last)
 unfolding lastOf
-last-some {h} l = record { is = simp (le-leb (h .last) 255 l); most = l }
+last-some {h} l = record { is = simp (le-leb (h .last) bodySize l); most = l }
 
-pub last-none : {h : Halves} → 255 < h .last → Last h 0
+pub last-none : {h : Halves} → bodySize < h .last → Last h 0
 unfolding lastOf
-last-none {h} l = record { is = simp (lt-leb (h .last) 255 l); most = omega arith }
+last-none {h} l = record { is = simp (lt-leb (h .last) bodySize l); most = omega arith }
 
 -- The part from a to a + n has n bytes.
 part-of : (a n : ℕ) (s : List ℕ) → take (a + n - a) (drop a s) ≡ take n (drop a s)
@@ -54,26 +55,29 @@ pub kept-is : {h : Halves} {buffer : List ℕ} {a n : ℕ} → Place (not (h .se
 unfolding keptIn
 kept-is {h} {buffer} {a} {n} p l = record { is = part-of a n buffer ∙ rw (p .is, l .is) refl }
 
-pub received-is : {h : Halves} {buffer : List ℕ} {a n : ℕ} → length buffer ≡ 514 → Place (h .second) a → n ≤ 257 → Received h buffer n (take (a + n - a) (drop a buffer))
+pub received-is : {h : Halves} {buffer : List ℕ} {a n : ℕ} → length buffer ≡ lineSize → Place (h .second) a → n ≤ packetSize → Received h buffer n (take (a + n - a) (drop a buffer))
 unfolding receivedIn
 received-is {h} {buffer} {a} {n} long p l =
     let m = p .most in
-    record { is = part-of a n buffer ∙ simp (le-leb n 257 l, sym (p .is)); long = λ z. rw (part-of a n buffer) (simp (length-take, length-drop) (omega arith)) }
+    record { is = part-of a n buffer ∙ simp (le-leb n packetSize l, sym (p .is)); long = λ z. rw (part-of a n buffer) (simp (length-take, length-drop) (omega arith)) }
 
-pub received-none : {h : Halves} {buffer : List ℕ} {n : ℕ} → 257 < n → Received h buffer n []
+pub received-none : {h : Halves} {buffer : List ℕ} {n : ℕ} → packetSize < n → Received h buffer n []
 unfolding receivedIn
-received-none {h} {buffer} {n} l = record { is = simp (lt-leb n 257 l); long = λ z. omega arith }
+received-none {h} {buffer} {n} l = record { is = simp (lt-leb n packetSize l); long = λ z. omega arith }
 
-pub listens : {h : Halves} {buffer half : List ℕ} {e : Event} {a n : ℕ} {r : Framed} → length buffer ≡ 514 → Place (h .second) a → Last h n →
-    Frames (h .framer) (take (a + 257 - a) (drop a buffer)) e r half →
-    Bytes (take a buffer ++ (half ++ drop (a + 257 - a) (drop a buffer))) →
-    Listens h buffer e (record { halves = record { framer = r .framer; second = h .second; last = n }; found = r .found }) (take a buffer ++ (half ++ drop (a + 257 - a) (drop a buffer)))
+pub moved-last : {h : Halves} {f : Framer} {n : ℕ} → Last h n → Moved h f (record { framer = f; second = h .second; last = n })
+moved-last l = record { is = rw (l .is) refl }
+
+pub listens : {h h′ : Halves} {buffer half : List ℕ} {e : Event} {a : ℕ} {r : Framed} → length buffer ≡ lineSize → Place (h .second) a → Moved h (r .framer) h′ →
+    Frames (h .framer) (take (a + packetSize - a) (drop a buffer)) e r half →
+    Bytes (take a buffer ++ (half ++ drop (a + packetSize - a) (drop a buffer))) →
+    Listens h buffer e (record { halves = h′; found = r .found }) (take a buffer ++ (half ++ drop (a + packetSize - a) (drop a buffer)))
 unfolding listenedOf bufferAfter halfOf
-listens {h} {buffer} {half} {e} {a} {n} {r} long p l f b =
-    let size : a + 257 - a ≡ 257 = omega arith in
+listens {h} {buffer = buffer} {half} {e} {a} {r} long p m f b =
+    let size : a + packetSize - a ≡ packetSize = omega arith in
     let g = rw size at f in
     record {
-      is = rw (g .is, l .is, p .is) refl;
+      is = rw (m .is, g .is, p .is) refl;
       buffer-is = rw size (rw (g .line-is, p .is) refl);
       long = long;
       bytes = b;
@@ -83,83 +87,83 @@ listens {h} {buffer} {half} {e} {a} {n} {r} long p l f b =
 
 -- The half that receives has come back.
 abbrev back : Bool → List ℕ → List ℕ → List ℕ
-back second buffer half = take (placeOf second) buffer ++ (half ++ drop 257 (drop (placeOf second) buffer))
+back second buffer half = take (placeOf second) buffer ++ (half ++ drop packetSize (drop (placeOf second) buffer))
 
-pub place-most : (second : Bool) → placeOf second ≤ 257
+pub place-most : (second : Bool) → placeOf second ≤ packetSize
 unfolding placeOf
 place-most true = omega arith
 place-most false = omega arith
 
-pub last-most : (h : Halves) → lastOf h ≤ 255
+pub last-most : (h : Halves) → lastOf h ≤ bodySize
 unfolding lastOf
-last-most h = by (leb (h .last) 255) refl
+last-most h = by (leb (h .last) bodySize) refl
   where
-    by : (d : Bool) → leb (h .last) 255 ≡ d → pick d (h .last) 0 ≤ 255
-    by true e = leb-true (h .last) 255 e
+    by : (d : Bool) → leb (h .last) bodySize ≡ d → pick d (h .last) 0 ≤ bodySize
+    by true e = leb-true (h .last) bodySize e
     by false e = omega arith
 
-last-small : (h : Halves) → h .last ≤ 255 → lastOf h ≡ h .last
+last-small : (h : Halves) → h .last ≤ bodySize → lastOf h ≡ h .last
 unfolding lastOf
-last-small h l = simp (le-leb (h .last) 255 l)
+last-small h l = simp (le-leb (h .last) bodySize l)
 
 not-not : (b : Bool) → not (not b) ≡ b
 not-not true = refl
 not-not false = refl
 
-length-half : (second : Bool) (buffer : List ℕ) → length buffer ≡ 514 → length (halfOf second buffer) ≡ 257
+length-half : (second : Bool) (buffer : List ℕ) → length buffer ≡ lineSize → length (halfOf second buffer) ≡ packetSize
 unfolding halfOf
 length-half second buffer long = let p = place-most second in simp (length-take, length-drop) (omega arith)
 
-module _ (second : Bool) (buffer half : List ℕ) (long : length buffer ≡ 514) (size : length half ≡ 257) where
-  behind-back : drop (placeOf second) (back second buffer half) ≡ half ++ drop 257 (drop (placeOf second) buffer)
+module _ (second : Bool) (buffer half : List ℕ) (long : length buffer ≡ lineSize) (size : length half ≡ packetSize) where
+  behind-back : drop (placeOf second) (back second buffer half) ≡ half ++ drop packetSize (drop (placeOf second) buffer)
   behind-back =
       let p = place-most second in
-      drop-at (take (placeOf second) buffer) (half ++ drop 257 (drop (placeOf second) buffer)) (placeOf second) (length-take-le (placeOf second) buffer (omega arith))
+      drop-at (take (placeOf second) buffer) (half ++ drop packetSize (drop (placeOf second) buffer)) (placeOf second) (length-take-le (placeOf second) buffer (omega arith))
 
   half-back : halfOf second (back second buffer half) ≡ half
   unfolding halfOf
-  half-back = rw behind-back (take-at half (drop 257 (drop (placeOf second) buffer)) 257 size)
+  half-back = rw behind-back (take-at half (drop packetSize (drop (placeOf second) buffer)) packetSize size)
 
-  front-back : (n : ℕ) → n ≤ 257 → take n (drop (placeOf second) (back second buffer half)) ≡ take n half
-  front-back n h = rw behind-back (take-append-le n half (drop 257 (drop (placeOf second) buffer)) (omega arith))
+  front-back : (n : ℕ) → n ≤ packetSize → take n (drop (placeOf second) (back second buffer half)) ≡ take n half
+  front-back n h = rw behind-back (take-append-le n half (drop packetSize (drop (placeOf second) buffer)) (omega arith))
 
 -- The other half is as it was.
-other-back : (second : Bool) (buffer half : List ℕ) (n : ℕ) → length buffer ≡ 514 → length half ≡ 257 → n ≤ 257 →
+other-back : (second : Bool) (buffer half : List ℕ) (n : ℕ) → length buffer ≡ lineSize → length half ≡ packetSize → n ≤ packetSize →
     take n (drop (placeOf (not second)) (back second buffer half)) ≡ take n (drop (placeOf (not second)) buffer)
 unfolding placeOf
 other-back true buffer half n long size h =
-    take-append-le n (take 257 buffer) (half ++ drop 257 (drop 257 buffer)) (simp length-take (omega arith)) ∙ take-take n 257 buffer h
-other-back false buffer half n long size h = rw (drop-at half (drop 257 buffer) 257 size) refl
+    take-append-le n (take packetSize buffer) (half ++ drop packetSize (drop packetSize buffer)) (simp length-take (omega arith)) ∙ take-take n packetSize buffer h
+other-back false buffer half n long size h = rw (drop-at half (drop packetSize buffer) packetSize size) refl
 
 -- So many bytes are kept.
-pub length-kept : (h : Halves) (buffer : List ℕ) → length buffer ≡ 514 → length (keptIn h buffer) ≡ lastOf h
+pub length-kept : (h : Halves) (buffer : List ℕ) → length buffer ≡ lineSize → length (keptIn h buffer) ≡ lastOf h
 unfolding keptIn
 length-kept h buffer long =
     let p = place-most (not (h .second)) in
     let m = last-most h in
     simp (length-take, length-drop) (omega arith)
 
-pub kept-accepted : (h : Halves) (buffer : List ℕ) (n : ℕ) → n ≤ 255 → keptIn (acceptedOf h n) buffer ≡ receivedIn h buffer n
+pub kept-accepted : (h : Halves) (buffer : List ℕ) (n : ℕ) → n ≤ bodySize → keptIn (acceptedOf h n) buffer ≡ receivedIn h buffer n
 unfolding keptIn receivedIn
-kept-accepted h buffer n l = simp (last-small (acceptedOf h n) l, not-not (h .second), le-leb n 257 (omega arith))
+kept-accepted h buffer n l = simp (last-small (acceptedOf h n) l, not-not (h .second), le-leb n packetSize (omega arith))
 
 -- A packet with this head stands in the half that receives, and nothing is begun.
 pub record Arrived (r : Listened) (buffer : List ℕ) (d : Head) (s : Done Line Heard) : Type 0 where
   pub told-is : s .told ≡ packet (receivedIn (r .halves) buffer (d .length)) ∷ []
   pub idle : s .next ≡ hearing []
   pub least : 4 ≤ d .length
-  pub most : d .length ≤ 255
+  pub most : d .length ≤ bodySize
   pub long : length (receivedIn (r .halves) buffer (d .length)) ≡ d .length
 
 -- The half that receives, as the framer leaves it.
 abbrev halfAfter : Halves → List ℕ → Event → List ℕ
 halfAfter h buffer e = lineAfter (h .framer) (halfOf (h .second) buffer) e
 
-module _ (h : Halves) (buffer : List ℕ) (e : Event) (long : length buffer ≡ 514) where
-  enough-half : 257 ≤ length (halfOf (h .second) buffer)
+module _ (h : Halves) (buffer : List ℕ) (e : Event) (long : length buffer ≡ lineSize) where
+  enough-half : packetSize ≤ length (halfOf (h .second) buffer)
   enough-half = let s = length-half (h .second) buffer long in omega arith
 
-  size-after : length (halfAfter h buffer e) ≡ 257
+  size-after : length (halfAfter h buffer e) ≡ packetSize
   size-after = length-after (h .framer) (halfOf (h .second) buffer) e enough-half ∙ length-half (h .second) buffer long
 
   frames-after : Frames (h .framer) (halfOf (h .second) buffer) e (framedOf (h .framer) (halfOf (h .second) buffer) e) (halfAfter h buffer e)
@@ -173,7 +177,7 @@ module _ {h : Halves} {buffer : List ℕ} {e : Event} {r : Listened} {buffer′ 
   half-bytes : Bytes (halfAfter h buffer e)
   unfolding halfOf
   half-bytes =
-      rw (half-back (h .second) buffer (halfAfter h buffer e) (k .long) (size-after h buffer e (k .long))) at (bytes-take 257 (bytes-drop (placeOf (h .second)) (rw back-is at (k .bytes))))
+      rw (half-back (h .second) buffer (halfAfter h buffer e) (k .long) (size-after h buffer e (k .long))) at (bytes-take packetSize (bytes-drop (placeOf (h .second)) (rw back-is at (k .bytes))))
 
   found-told : foundOf (framerStep (lineIn h buffer) e .told) ≡ r .found
   unfolding lineIn listenedOf
@@ -213,7 +217,7 @@ module _ {h : Halves} {buffer : List ℕ} {e : Event} {r : Listened} {buffer′ 
       let most = w .most in
       let size = size-after h buffer e (k .long) in
       let there : receivedIn (r .halves) buffer′ (d .length) ≡ take (d .length) (halfAfter h buffer e) =
-      simp (le-leb (d .length) 257 (omega arith)) (rw (halves-are, back-is) (front-back (h .second) buffer (halfAfter h buffer e) (k .long) size (d .length) (omega arith))) in
+      simp (le-leb (d .length) packetSize (omega arith)) (rw (halves-are, back-is) (front-back (h .second) buffer (halfAfter h buffer e) (k .long) size (d .length) (omega arith))) in
       record {
         told-is = rw (there, after) (w .told-is);
         idle = w .idle;
@@ -233,7 +237,7 @@ module _ {h : Halves} {buffer : List ℕ} {e : Event} {r : Listened} {buffer′ 
   line-behind true n idle = line-accepted n (idle refl) ∙ sym (idle refl)
   line-behind false n idle = line-listened
 
-  pub kept-behind : (a : Bool) (n : ℕ) → n ≤ 255 → keptIn (pick a (acceptedOf (r .halves) n) (r .halves)) buffer′ ≡ pick a (receivedIn (r .halves) buffer′ n) (keptIn h buffer)
+  pub kept-behind : (a : Bool) (n : ℕ) → n ≤ bodySize → keptIn (pick a (acceptedOf (r .halves) n) (r .halves)) buffer′ ≡ pick a (receivedIn (r .halves) buffer′ n) (keptIn h buffer)
   kept-behind true n l = kept-accepted (r .halves) buffer′ n l
   kept-behind false n l = kept-listened
 

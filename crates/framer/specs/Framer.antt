@@ -1,4 +1,4 @@
--- Document 01, 'Framer': one event at a time.
+-- §5, the framer: one event at a time.
 use Prim.Native.Nat.{ℕ}
 use mathlib.Core.List.{List, [], _∷_, _++_}
 use lib.Dec.{eqb}

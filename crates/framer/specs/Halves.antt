@@ -1,12 +1,13 @@
--- The line buffer of an end that remembers its last accepted packet: two halves of 257 bytes. One half receives, and an accepted
--- packet stays where it was received while the other half takes the next.
-use Prim.Native.Nat.{ℕ, _+_, _≤_}
+-- The line buffer of an end that remembers its last accepted packet (§8, §11): two halves, each as long as a packet can be. One half
+-- receives, and an accepted packet stays where it was received while the other half takes the next.
+use Prim.Native.Nat.{ℕ, _+_, _*_, _≤_}
 use mathlib.Core.Bool.{Bool, true, false, not}
 use mathlib.Core.List.{List, [], _++_}
 use mathlib.Core.Path.{_≡_}
 use lib.Dec.{leb, ltb}
 use lib.ListN.{length, getD, take, drop}
 use Rattle.words.specs.Lists.{pick, both, Bytes}
+use Rattle.packet.specs.Sizes.{headSize, bodySize, packetSize}
 use Rattle.framer.specs.Framer.{Line, hearing}
 use Rattle.framer.specs.Promises.{begunOf, lineOf, controlOf, framedOf, lineAfter, Frames}
 use Rattle.framer.specs.declared.Event.{Event}
@@ -18,16 +19,19 @@ use Rattle.framer.specs.declared.Going.{Going}
 use Rattle.framer.specs.declared.Going.the-variants.{On, Left}
 use Rattle.framer.specs.declared.Listened.{Listened}
 
+abbrev pub lineSize : ℕ
+lineSize = 2 * packetSize
+
 -- Where a half starts, and its bytes.
 unfoldable pub placeOf : Bool → ℕ
-placeOf second = pick second 257 0
+placeOf second = pick second packetSize 0
 
 unfoldable pub halfOf : Bool → List ℕ → List ℕ
-halfOf second buffer = take 257 (drop (placeOf second) buffer)
+halfOf second buffer = take packetSize (drop (placeOf second) buffer)
 
--- Any control value is taken: a last packet longer than 255 bytes is none.
+-- Any control value is taken: a last packet longer than a packet can be is none.
 unfoldable pub lastOf : Halves → ℕ
-lastOf h = pick (leb (h .last) 255) (h .last) 0
+lastOf h = pick (leb (h .last) bodySize) (h .last) 0
 
 -- What control value and buffer stand for: the line, and the last accepted packet's body (no bytes: none).
 unfoldable pub lineIn : Halves → List ℕ → Line
@@ -38,26 +42,30 @@ keptIn h buffer = take (lastOf h) (drop (placeOf (not (h .second))) buffer)
 
 -- The n bytes that stand in the half that receives.
 unfoldable pub receivedIn : Halves → List ℕ → ℕ → List ℕ
-receivedIn h buffer n = pick (leb n 257) (take n (drop (placeOf (h .second)) buffer)) []
+receivedIn h buffer n = pick (leb n packetSize) (take n (drop (placeOf (h .second)) buffer)) []
 
 abbrev pub idleHalves : Halves
 idleHalves = record { framer = controlOf (hearing []); second = false; last = 0 }
+
+-- The framer's control value is now this one.
+abbrev pub movedOf : Halves → Framer → Halves
+movedOf h f = record { framer = f; second = h .second; last = lastOf h }
 
 -- After an event: the framer's control value, and the buffer with the receiving half put back.
 unfoldable pub listenedOf : Halves → List ℕ → Event → Listened
 listenedOf h buffer e =
     record {
-      halves = record { framer = framedOf (h .framer) (halfOf (h .second) buffer) e .framer; second = h .second; last = lastOf h };
+      halves = movedOf h (framedOf (h .framer) (halfOf (h .second) buffer) e .framer);
       found = framedOf (h .framer) (halfOf (h .second) buffer) e .found;
     }
 
 unfoldable pub bufferAfter : Halves → List ℕ → Event → List ℕ
 bufferAfter h buffer e =
-    take (placeOf (h .second)) buffer ++ (lineAfter (h .framer) (halfOf (h .second) buffer) e ++ drop 257 (drop (placeOf (h .second)) buffer))
+    take (placeOf (h .second)) buffer ++ (lineAfter (h .framer) (halfOf (h .second) buffer) e ++ drop packetSize (drop (placeOf (h .second)) buffer))
 
 -- Whether a byte is inside a packet: it neither begins nor ends one.
 unfoldable pub insideOf : Framer → List ℕ → Bool
-insideOf f line = both (ltb 0 (begunOf f)) (both (leb 4 (getD line 0 0)) (leb (begunOf f) (getD line 0 0)))
+insideOf f line = both (ltb 0 (begunOf f)) (both (leb headSize (getD line 0 0)) (leb (begunOf f) (getD line 0 0)))
 
 -- Whether the framer goes on and tells nothing: inside a packet, and where it is deaf.
 unfoldable pub goesOn : Halves → List ℕ → Event → Bool
@@ -77,12 +85,12 @@ pub record IdleHalves (r : Halves) : Type 0 where
 pub record Listens (h : Halves) (buffer : List ℕ) (e : Event) (r : Listened) (buffer′ : List ℕ) : Type 0 where
   pub is : r ≡ listenedOf h buffer e
   pub buffer-is : buffer′ ≡ bufferAfter h buffer e
-  pub long : length buffer ≡ 514
+  pub long : length buffer ≡ lineSize
   pub bytes : Bytes buffer′
 
 pub record Received (h : Halves) (buffer : List ℕ) (n : ℕ) (r : List ℕ) : Type 0 where
   pub is : r ≡ receivedIn h buffer n
-  pub long : n ≤ 257 → length r ≡ n
+  pub long : n ≤ packetSize → length r ≡ n
 
 pub record Kept (h : Halves) (buffer r : List ℕ) : Type 0 where
   pub is : r ≡ keptIn h buffer
@@ -90,15 +98,19 @@ pub record Kept (h : Halves) (buffer r : List ℕ) : Type 0 where
 pub record AcceptsLast (h : Halves) (n : ℕ) (r : Halves) : Type 0 where
   pub is : r ≡ acceptedOf h n
 
+pub record Moved (h : Halves) (f : Framer) (r : Halves) : Type 0 where
+  pub is : r ≡ movedOf h f
+
 pub record Place (second : Bool) (r : ℕ) : Type 0 where
   pub is : r ≡ placeOf second
-  pub most : r ≤ 257
+  pub most : r ≤ packetSize
 
 pub record Last (h : Halves) (r : ℕ) : Type 0 where
   pub is : r ≡ lastOf h
-  pub most : r ≤ 255
+  pub most : r ≤ bodySize
 
--- Where the framer goes on, what `listen` promises, and nothing is found; else nothing is done.
+-- Where the framer goes on, what `listen` promises, and nothing is found (`short-way-listens`); else nothing is done. A short way takes its
+-- event without a test for number 13: it stands for an event with rooms of full size, and whoever lends rooms tests them first.
 pub data GoesOn (h : Halves) (buffer : List ℕ) (e : Event) : Going → List ℕ → Type 0 where
   on : {next : Halves} {buffer′ : List ℕ} → goesOn h buffer e ≡ true → Listens h buffer e (record { halves = next; found = Nothing }) buffer′ → GoesOn h buffer e (On next) buffer′
   left : {buffer′ : List ℕ} → goesOn h buffer e ≡ false → buffer′ ≡ buffer → GoesOn h buffer e Left buffer′

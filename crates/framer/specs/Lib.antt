@@ -2,3 +2,5 @@ pub mod Behind
 pub mod Framer
 pub mod Halves
 pub mod Promises
+pub mod Refused
+pub mod Untouched

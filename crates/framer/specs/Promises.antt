@@ -1,15 +1,16 @@
 -- What the framer's call promises: what it found, its control value, and every byte of the line buffer.
-use Prim.Native.Nat.{ℕ, _≤_}
+use Prim.Native.Nat.{ℕ, _<_}
 use mathlib.Core.Bool.{true, false}
 use mathlib.Core.List.{List, [], _∷_, _++_}
 use mathlib.Core.Path.{_≡_}
-use lib.Dec.{ltb, leb, eqb}
+use lib.Dec.{ltb, eqb}
 use lib.ListN.{length, take}
 use Rattle.words.specs.Lists.{pick, over}
 use Rattle.packet.specs.Packet.{headIn}
 use Rattle.packet.specs.declared.Refusal.the-variants.{Cut, Room}
 use Rattle.packet.specs.declared.Refusal.{Refusal}
 use Rattle.packet.specs.Refusals.{numberOf}
+use Rattle.packet.specs.Sizes.{packetSize}
 use Rattle.framer.specs.Framer.{Line, hearing, deaf, Heard, packet, refused, framerStep}
 use Rattle.framer.specs.declared.Event.{Event}
 use Rattle.framer.specs.declared.Event.the-variants.{Byte, CharacterGap, MessageGap}
@@ -20,7 +21,7 @@ use Rattle.framer.specs.declared.Framed.{Framed}
 
 -- Any control value is taken: a count that the line buffer cannot have is 0.
 unfoldable pub begunOf : Framer → ℕ
-begunOf f = pick (leb (f .count) 256) (f .count) 0
+begunOf f = pick (ltb (f .count) packetSize) (f .count) 0
 
 -- What a control value and a line buffer stand for.
 unfoldable pub lineOf : Framer → List ℕ → Line
@@ -44,14 +45,14 @@ storedOf (Byte b) deaf line = line
 storedOf CharacterGap l line = line
 storedOf MessageGap l line = line
 
--- Number 13 first, for a line buffer under 257 bytes: the event is then not taken.
+-- Number 13 first, for a line buffer that is too short for a packet: the event is then not taken.
 unfoldable pub framedOf : Framer → List ℕ → Event → Framed
 framedOf f line e =
-    pick (ltb (length line) 257) (record { framer = f; found = Refused Room })
+    pick (ltb (length line) packetSize) (record { framer = f; found = Refused Room })
     (record { framer = controlOf (framerStep (lineOf f line) e .next); found = foundOf (framerStep (lineOf f line) e .told) })
 
 unfoldable pub lineAfter : Framer → List ℕ → Event → List ℕ
-lineAfter f line e = pick (ltb (length line) 257) line (storedOf e (lineOf f line) line)
+lineAfter f line e = pick (ltb (length line) packetSize) line (storedOf e (lineOf f line) line)
 
 pub record Frames (f : Framer) (line : List ℕ) (e : Event) (r : Framed) (line′ : List ℕ) : Type 0 where
   pub is : r ≡ framedOf f line e
@@ -62,7 +63,14 @@ pub record Idle (r : Framer) : Type 0 where
 
 pub record Begun (f : Framer) (r : ℕ) : Type 0 where
   pub is : r ≡ begunOf f
-  pub most : r ≤ 256
+  pub most : r < packetSize
+
+pub record Deaf (r : Framer) : Type 0 where
+  pub is : r ≡ controlOf deaf
+
+-- Nothing is begun any more, and this was found.
+pub record Ended (found : Found) (r : Framed) : Type 0 where
+  pub is : r ≡ record { framer = controlOf (hearing []); found = found }
 
 -- A gap needs no byte of the line buffer.
 pub record Gap (f : Framer) (r : Framed) : Type 0 where

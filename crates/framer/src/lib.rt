@@ -1,18 +1,21 @@
-// The framer: bytes and gaps of a line, one event at a time, into packets and refusals.
+// The framer (§5): bytes and gaps of a line, one event at a time, into packets and refusals.
+use packet::CHECKSUM_SIZE;
 use packet::Checked;
 use packet::Head;
+use packet::PACKET_SIZE;
 use packet::Refusal;
 ghost use Prim.Native.Nat.{_≤_};
 ghost use mathlib.Core.Bool.{false};
 ghost use mathlib.Core.Path.{_≡_};
 ghost use lib.ListN.{length};
-ghost use Rattle.framer.specs.Halves.{IdleHalves, Listens, Received, Kept, AcceptsLast, Place, Last, GoesOn, Inside};
-ghost use Rattle.framer.specs.Promises.{Idle, Begun, Gap, Unfinished, Frames};
+ghost use Rattle.packet.specs.Sizes.{packetSize};
+ghost use Rattle.framer.specs.Halves.{lineSize, IdleHalves, Moved, Listens, Received, Kept, AcceptsLast, Place, Last, GoesOn, Inside};
+ghost use Rattle.framer.specs.Promises.{Idle, Deaf, Ended, Begun, Gap, Unfinished, Frames};
 
-// A packet of the greatest length, its checksum with it.
-pub const LINE: usize = 257;
-// Two of them: one receives, the last accepted packet stays in the other.
-pub const HALVES: usize = 2 * LINE;
+// Room for two packets: one half receives, the last accepted packet stays in the other.
+pub const LINE_SIZE: usize = 2 * PACKET_SIZE;
+// The longest packet without its checksum.
+const BODY_SIZE: usize = PACKET_SIZE - CHECKSUM_SIZE;
 
 // What happens on a line. A message gap is also a character gap.
 pub enum Event {
@@ -49,11 +52,21 @@ pub fn idle() -> Framer
     }
 }
 
-// One event. The line buffer has 257 bytes; with fewer the event is not taken.
+// A framer that ignores all bytes until the next gap.
+fn deaf() -> Framer
+    ensures { λ r. ⌜ Deaf r ⌝ }
+{
+    Framer {
+        count: 0,
+        deaf: true,
+    }
+}
+
+// One event. The line buffer has room for a packet; with less the event is not taken.
 pub fn hear(framer: Framer, line: &mut [u8], event: Event) -> Framed
     ensures { λ r. ⌜ Frames framer (now (line .entry)) event r (now (line .exit)) ⌝ }
 {
-    if line.len() < LINE {
+    if line.len() < PACKET_SIZE {
         return Framed {
             framer,
             found: Found::Refused(Refusal::Room),
@@ -70,7 +83,7 @@ pub fn hear(framer: Framer, line: &mut [u8], event: Event) -> Framed
 fn begun(framer: Framer) -> usize
     ensures { λ r. ⌜ Begun framer r ⌝ }
 {
-    if framer.count <= 256 {
+    if framer.count < PACKET_SIZE {
         return framer.count;
     }
     0
@@ -81,34 +94,32 @@ fn gap(framer: Framer) -> Framed
     ensures { λ r. ⌜ Gap framer r ⌝ }
 {
     if framer.deaf {
-        return Framed {
-            framer: idle(),
-            found: Found::Nothing,
-        };
+        return ended(Found::Nothing);
     }
     if begun(framer) == 0 {
-        return Framed {
-            framer: idle(),
-            found: Found::Nothing,
-        };
+        return ended(Found::Nothing);
     }
+    ended(Found::Refused(Refusal::Cut))
+}
+
+// Nothing is begun any more.
+fn ended(found: Found) -> Framed
+    ensures { λ r. ⌜ Ended found r ⌝ }
+{
     Framed {
         framer: idle(),
-        found: Found::Refused(Refusal::Cut),
+        found,
     }
 }
 
 // A byte is judged with those before it.
 fn byte(framer: Framer, line: &mut [u8], b: u8) -> Framed
-    requires { ⌜ 257 ≤ length (now line) ⌝ }
+    requires { ⌜ packetSize ≤ length (now line) ⌝ }
     ensures { λ r. ⌜ Frames framer (now (line .entry)) (Event.Byte b) r (now (line .exit)) ⌝ }
 {
     if framer.deaf {
         return Framed {
-            framer: Framer {
-                count: 0,
-                deaf: true,
-            },
+            framer: deaf(),
             found: Found::Nothing,
         };
     }
@@ -116,10 +127,7 @@ fn byte(framer: Framer, line: &mut [u8], b: u8) -> Framed
     line[at] = b;
     let count = at + 1;
     match packet::check(&line[..count]) {
-        Checked::Packet(head) => Framed {
-            framer: idle(),
-            found: Found::Packet(head),
-        },
+        Checked::Packet(head) => ended(Found::Packet(head)),
         Checked::Refused(refusal) => unfinished(refusal, count),
     }
 }
@@ -135,10 +143,7 @@ fn unfinished(refusal: Refusal, count: usize) -> Framed
         };
     }
     Framed {
-        framer: Framer {
-            count: 0,
-            deaf: true,
-        },
+        framer: deaf(),
         found: Found::Refused(refusal),
     }
 }
@@ -167,28 +172,35 @@ pub fn idle_halves() -> Halves
 }
 
 // One event, in the half that receives.
-pub fn listen(halves: Halves, buffer: &mut [u8; HALVES], event: Event) -> Listened
+pub fn listen(halves: Halves, buffer: &mut [u8; LINE_SIZE], event: Event) -> Listened
     ensures { λ r. ⌜ Listens halves (now (buffer .entry)) event r (now (buffer .exit)) ⌝ }
 {
     listen_in(halves, buffer, event)
 }
 
 fn listen_in(halves: Halves, buffer: &mut [u8], event: Event) -> Listened
-    requires { ⌜ length (now buffer) ≡ 514 ⌝ }
+    requires { ⌜ length (now buffer) ≡ lineSize ⌝ }
     ensures { λ r. ⌜ Listens halves (now (buffer .entry)) event r (now (buffer .exit)) ⌝ }
 {
     let from = place(halves.second);
-    let end = from + LINE;
+    let end = from + PACKET_SIZE;
     let framed = hear(halves.framer, &mut buffer[from..end], event);
     let framer = framed.framer;
     let found = framed.found;
     Listened {
-        halves: Halves {
-            framer,
-            second: halves.second,
-            last: last(halves),
-        },
+        halves: moved(halves, framer),
         found,
+    }
+}
+
+// The framer's control value is now this one.
+fn moved(halves: Halves, framer: Framer) -> Halves
+    ensures { λ r. ⌜ Moved halves framer r ⌝ }
+{
+    Halves {
+        framer,
+        second: halves.second,
+        last: last(halves),
     }
 }
 
@@ -198,8 +210,9 @@ pub enum Going {
     Left,
 }
 
-// The short way of `listen`, for most bytes of a line: those inside a packet, and those that a deaf framer ignores.
-pub fn go_on(halves: Halves, buffer: &mut [u8; HALVES], event: Event) -> Going
+// The short way of `listen`, for most bytes of a line: those inside a packet, and those that a deaf framer ignores. It has no test
+// for number 13, so it stands for an event with rooms of full size: whoever lends rooms tests them first.
+pub fn go_on(halves: Halves, buffer: &mut [u8; LINE_SIZE], event: Event) -> Going
     ensures { λ r. ⌜ GoesOn halves (now (buffer .entry)) event r (now (buffer .exit)) ⌝ }
 {
     match event {
@@ -210,36 +223,25 @@ pub fn go_on(halves: Halves, buffer: &mut [u8; HALVES], event: Event) -> Going
 }
 
 fn carry(halves: Halves, buffer: &mut [u8], b: u8) -> Going
-    requires { ⌜ length (now buffer) ≡ 514 ⌝ }
+    requires { ⌜ length (now buffer) ≡ lineSize ⌝ }
     ensures { λ r. ⌜ GoesOn halves (now (buffer .entry)) (Event.Byte b) r (now (buffer .exit)) ⌝ }
 {
     let before = halves.framer;
     if before.deaf {
-        return Going::On(Halves {
-            framer: Framer {
-                count: 0,
-                deaf: true,
-            },
-            second: halves.second,
-            last: last(halves),
-        });
+        return Going::On(moved(halves, deaf()));
     }
     let from = place(halves.second);
-    let end = from + LINE;
+    let end = from + PACKET_SIZE;
     let count = inside(before, &mut buffer[from..end], b);
     if count == 0 {
         return Going::Left;
     }
-    Going::On(Halves {
-        framer: Framer { count, deaf: false },
-        second: halves.second,
-        last: last(halves),
-    })
+    Going::On(moved(halves, Framer { count, deaf: false }))
 }
 
 // A byte inside a packet goes behind those before it: how many there are then. Where it begins or ends one it is left: 0.
 fn inside(framer: Framer, line: &mut [u8], b: u8) -> usize
-    requires { ⌜ (257 ≤ length (now line)) × (framer .deaf ≡ false) ⌝ }
+    requires { ⌜ (packetSize ≤ length (now line)) × (framer .deaf ≡ false) ⌝ }
     ensures { λ r. ⌜ Inside framer (now (line .entry)) b r (now (line .exit)) ⌝ }
 {
     let n = begun(framer);
@@ -258,12 +260,12 @@ fn inside(framer: Framer, line: &mut [u8], b: u8) -> usize
 }
 
 // The first n bytes of the half that receives.
-pub fn received(halves: Halves, buffer: &[u8; HALVES], n: usize) -> &[u8]
+pub fn received(halves: Halves, buffer: &[u8; LINE_SIZE], n: usize) -> &[u8]
     ensures { λ r. ⌜ Received halves (now (buffer .entry)) n (now r) ⌝ }
 {
     let from = place(halves.second);
     let whole = &buffer[..];
-    if n <= LINE {
+    if n <= PACKET_SIZE {
         let end = from + n;
         return &whole[from..end];
     }
@@ -271,7 +273,7 @@ pub fn received(halves: Halves, buffer: &[u8; HALVES], n: usize) -> &[u8]
 }
 
 // The last accepted packet.
-pub fn kept(halves: Halves, buffer: &[u8; HALVES]) -> &[u8]
+pub fn kept(halves: Halves, buffer: &[u8; LINE_SIZE]) -> &[u8]
     ensures { λ r. ⌜ Kept halves (now (buffer .entry)) (now r) ⌝ }
 {
     let from = place(!halves.second);
@@ -297,7 +299,7 @@ fn place(second: bool) -> usize
     ensures { λ r. ⌜ Place second r ⌝ }
 {
     if second {
-        return LINE;
+        return PACKET_SIZE;
     }
     0
 }
@@ -306,7 +308,7 @@ fn place(second: bool) -> usize
 fn last(halves: Halves) -> usize
     ensures { λ r. ⌜ Last halves r ⌝ }
 {
-    if halves.last <= 255 {
+    if halves.last <= BODY_SIZE {
         return halves.last;
     }
     0

@@ -2,28 +2,29 @@
 use Prim.Native.Nat.{ℕ, _≤_, _<_}
 use mathlib.Core.Path.{_≡_, refl, sym, _∙_}
 use mathlib.Core.Bool.{Bool, true, false, not}
-use mathlib.Core.List.{List, []}
+use mathlib.Core.List.{List, [], _∷_}
 use native.Mathlib.Omega.{arith}
 use lib.Dec.{eqb}
 use lib.ListN.{length}
-use borrow.Author.Tests.{eq-eqb, ne-eqb, le-leb, lt-leb}
-use Rattle.words.specs.Lists.{over}
+use borrow.Author.Tests.{le-leb, lt-leb}
+use Rattle.words.specs.Lists.{over, Each, none, one}
+use Rattle.words.specs.Machine.{given}
 use Rattle.words.proofs.Lists.{never}
 use Rattle.packet.specs.Opcodes.{host}
 use Rattle.packet.specs.Packet.{seal, sourceAllowed, replyBody}
-use Rattle.packet.specs.Refusals.{causeOf}
-use Rattle.packet.specs.Promises.{Answer, Cause}
+use Rattle.packet.specs.Refusals.{nakBytes}
+use Rattle.packet.specs.Promises.{Answer, Naks, SizeOf}
+use Rattle.packet.specs.Sizes.{messageSize}
 use Rattle.packet.specs.declared.Refusal.{Refusal}
 use Rattle.packet.specs.declared.Refusal.the-variants as refusal
-use Rattle.packet.specs.declared.Reply.{Reply}
-use Rattle.packet.specs.declared.Reply.the-variants.{Nak}
+use Rattle.packet.specs.declared.Reply.the-variants.{Ack}
 use Rattle.packet.specs.declared.Built.{Built}
 use Rattle.packet.specs.declared.Built.the-variants.{Written, Refused}
-use Rattle.packet.proofs.Writing.{reply-written, reply-never}
+use Rattle.packet.proofs.Writing.{reply-written, reply-never, nak-length, nak-never}
 use Rattle.framer.specs.Halves.{IdleHalves, AcceptsLast}
 use Rattle.framer.specs.declared.Halves.{Halves}
-use Rattle.hub.specs.Hub.{nakBytes}
-use Rattle.hub.specs.Promises.{Closed, SwitchedOn, Gatherings, soundOf, Within, OtherType, Bars, acceptsName, Accepts, Stays, Settles, Writes, nameBytes}
+use Rattle.hub.specs.Joiner.{Output, answered, refusing}
+use Rattle.hub.specs.Promises.{answerOf, messageOf, hubAnswerSize, Closed, SwitchedOn, Gatherings, soundOf, Within, OtherType, Bars, acceptsName, Accepts, Stays, Settles, Writes, nameBytes}
 use Rattle.hub.specs.declared.Gathering.{Gathering}
 use Rattle.hub.specs.declared.Told.{Told}
 use Rattle.hub.specs.declared.Told.the-variants as told
@@ -32,11 +33,11 @@ use Rattle.hub.specs.declared.Stepped.{Stepped}
 
 -- ---- tests
 
-pub within-count : {n : ℕ} → n ≤ 4096 → Within n n
-within-count {n} h = record { is = simp (le-leb n 4096 h); most = h }
+pub within-count : {n : ℕ} → n ≤ messageSize → Within n n
+within-count {n} h = record { is = simp (le-leb n messageSize h); most = h }
 
-pub within-none : {n : ℕ} → 4096 < n → Within n 0
-within-none {n} h = record { is = simp (lt-leb n 4096 h); most = omega arith }
+pub within-none : {n : ℕ} → messageSize < n → Within n 0
+within-none {n} h = record { is = simp (lt-leb n messageSize h); most = omega arith }
 
 pub other-begun : {g : Gathering} {code : ℕ} → g .begun ≡ true → OtherType g code (not (eqb (g .code) code))
 other-begun e = record { is = simp e }
@@ -74,29 +75,16 @@ module _ {h : Halves} {n : ℕ} {joined : Joined} {a : Bool} {r : Stepped} (p : 
 
 -- ---- what goes out
 
--- With room enough a reply is never refused.
-module _ {room room′ : List ℕ} {y : Reply} {r : Built} (h : 7 ≤ length room) (k : Answer room host y r room′) where
-  pub says-written : {n : ℕ} → r ≡ Written n → Writes (seal (replyBody host y)) room n room′
-  unfolding sourceAllowed
-  says-written e = let w = reply-written refl h k e in record { is = w .0; answer-is = w .1 }
+-- With room enough ACK and NAK are never refused.
+pub acknowledges : {room room′ : List ℕ} {r : Built} {n : ℕ} → hubAnswerSize ≤ length room → Answer room host Ack r room′ → SizeOf r n → Writes (seal (replyBody host Ack)) room n room′
+unfolding sourceAllowed
+acknowledges {r = Written m} h k c = let w = reply-written refl h k refl in record { is = c .is ∙ w .0; answer-is = w .1 }
+acknowledges {r = Refused x} h k c = absurd (reply-never refl h k refl)
 
-  pub says-refused : {x : Refusal} → r ≡ Refused x → Writes (seal (replyBody host y)) room 0 room′
-  unfolding sourceAllowed
-  says-refused e = absurd (reply-never refl h k e)
-
-pub nak-bytes : (cause : ℕ) → (cause ≡ 0 → ⊥) → nakBytes cause ≡ seal (replyBody host (Nak cause))
-unfolding nakBytes
-nak-bytes cause h = simp (ne-eqb cause 0 h)
-
-module _ {room : List ℕ} {x : Refusal} {cause : ℕ} (k : Cause x cause) where
-  pub refuses-silent : cause ≡ 0 → Writes (nakBytes (causeOf x)) room 0 room
-  unfolding nakBytes over
-  refuses-silent e =
-      let b : nakBytes (causeOf x) ≡ [] = simp (eq-eqb (causeOf x) 0 (sym (k .is) ∙ e)) in
-      rw b (record { is = refl; answer-is = refl })
-
-  pub refuses-nak : {room′ : List ℕ} {n : ℕ} → (cause ≡ 0 → ⊥) → Writes (seal (replyBody host (Nak cause))) room n room′ → Writes (nakBytes (causeOf x)) room n room′
-  refuses-nak h w = rw (← k .is) (rw (nak-bytes cause h) w)
+pub refuses-nak : {room room′ : List ℕ} {x : Refusal} {r : Built} {n : ℕ} → hubAnswerSize ≤ length room → Naks room host x r room′ → SizeOf r n → Writes (nakBytes host x) room n room′
+unfolding sourceAllowed
+refuses-nak {r = Written m} h k c = let w = nak-length refl h k refl in record { is = c .is ∙ w .0; answer-is = w .1 }
+refuses-nak {r = Refused x} h k c = absurd (nak-never refl h k refl)
 
 pub replies-nothing : {t : Told} {room : List ℕ} → t ≡ told.Nothing → Writes (nameBytes t) room 0 room
 unfolding over
@@ -104,3 +92,29 @@ replies-nothing e = rw e (record { is = refl; answer-is = refl })
 
 pub replies : {t u : Told} {room room′ : List ℕ} {n : ℕ} → t ≡ u → Writes (nameBytes u) room n room′ → Writes (nameBytes t) room n room′
 replies e w = rw e w
+
+-- ---- what is told of a refusal
+
+-- Behind a refusal its NAK is told, if there is one, and nothing else.
+pub each-given : {P : Output → Type 0} → ((bytes : List ℕ) → P (answered bytes)) → (b : List ℕ) → Each P (given answered b)
+unfolding given
+each-given p [] = none
+each-given p (x ∷ xs) = one (p (x ∷ xs)) none
+
+answer-given : (b : List ℕ) → answerOf (given answered b) ≡ b
+unfolding given answerOf
+answer-given [] = refl
+answer-given (x ∷ xs) = refl
+
+message-given : (b : List ℕ) → messageOf (given answered b) ≡ []
+unfolding given messageOf
+message-given [] = refl
+message-given (x ∷ xs) = refl
+
+pub refusing-answers : (x : Refusal) → answerOf (refusing x) ≡ nakBytes host x
+unfolding answerOf
+refusing-answers x = answer-given (nakBytes host x)
+
+pub refusing-hands-out : (x : Refusal) → messageOf (refusing x) ≡ []
+unfolding messageOf
+refusing-hands-out x = message-given (nakBytes host x)

@@ -11,6 +11,7 @@ use Rattle.words.specs.Machine.{Done, through}
 use Rattle.words.proofs.Lists.{take-over, over-nil, never}
 use Rattle.words.proofs.Machine.{through-one}
 use Rattle.packet.specs.Packet.{unmarked}
+use Rattle.packet.specs.Sizes.{bodySize, messageSize}
 use Rattle.packet.specs.declared.Refusal.{Refusal}
 use Rattle.packet.specs.declared.Head.{Head}
 use Rattle.packet.proofs.Marks.{length-unmarked, unmarked-pick}
@@ -24,42 +25,35 @@ use Rattle.framer.specs.declared.Halves.{Halves}
 use Rattle.framer.specs.declared.Listened.{Listened}
 use Rattle.framer.specs.declared.Found.the-variants.{Nothing, Packet, Refused}
 use Rattle.framer.proofs.TwoHalves.{kept-listened, listened-nothing, listened-refused, listened-packet, line-behind, kept-behind, control-behind}
-use Rattle.hub.specs.Joiner.{Gathered, none, some, Joiner, Output, added, repeated, handed, refused, bytesOf}
-use Rattle.hub.specs.Hub.{HubState, packetStep, heardStep, cleared, hubStep, answerBytes, messageBytes}
-use Rattle.hub.specs.Promises.{nameOf, toldOf, answerOf, messageOf, soundOf, gatheredOf, joinerOf, gatheringOf, stateOf, accepts, acceptsName, controlAfter, clearedControl, tooSmall, nameBytes, Hears, Gatherings, Joins, Stays, Settles, Receives, Steps, NoRoom, Cleared, Writes}
+use Rattle.hub.specs.Joiner.{Gathered, none, some, Joiner, Output, refusing, bytesOf}
+use Rattle.hub.specs.Hub.{HubState, packetStep, heardStep, cleared, hubStep}
+use Rattle.hub.specs.Promises.{toldOf, answerOf, messageOf, soundOf, gatheredOf, joinerOf, gatheringOf, stateOf, accepts, acceptsName, controlAfter, clearedControl, hubAnswerSize, tooSmall, nameBytes, Hears, Gatherings, Joins, Stays, Settles, Receives, Steps, NoRoom, Cleared, Writes}
 use Rattle.hub.specs.declared.Gathering.{Gathering}
 use Rattle.hub.specs.declared.Hub.{Hub}
 use Rattle.hub.specs.declared.Told.the-variants as told
 use Rattle.hub.specs.declared.Joined.{Joined}
 use Rattle.hub.specs.declared.Stepped.{Stepped}
-use Rattle.hub.specs.declared.Answered.{Answered}
+use Rattle.hub.specs.declared.Taken.{Taken}
+use Rattle.hub.proofs.Control.{refusing-hands-out}
 use Rattle.hub.proofs.Joining.{still}
-use Rattle.hub.proofs.Outcomes.{Kept, kept, packet-outcome}
+use Rattle.hub.proofs.Outcomes.{Kept, kept, packet-outcome, event-happens, name-answers}
 
 -- ---- what is gathered
 
 -- A control value of what is gathered, with the buffer, stands for it.
-join-back : (b : Bool) (g : Gathered) (last gather : List ℕ) → length (bytesOf g) ≤ 4096 →
+join-back : (b : Bool) (g : Gathered) (last gather : List ℕ) → length (bytesOf g) ≤ messageSize →
     joinerOf (soundOf (gatheringOf b g)) last (over (bytesOf g) gather) ≡ record { barred = b; last = unmarked last; gathered = g }
 unfolding joinerOf soundOf gatheredOf bytesOf
 join-back b none last gather h = refl
-join-back b (some code bytes) last gather h = simp (le-leb (length bytes) 4096 h, take-over bytes gather (length bytes) refl)
-
-accepts-name : (ts : List Output) → acceptsName (toldOf ts) ≡ accepts ts
-unfolding accepts toldOf nameOf
-accepts-name [] = refl
-accepts-name (added ∷ ts) = refl
-accepts-name (repeated ∷ ts) = refl
-accepts-name (handed code bytes ∷ ts) = refl
-accepts-name (refused r ∷ ts) = refl
+join-back b (some code bytes) last gather h = simp (le-leb (length bytes) messageSize h, take-over bytes gather (length bytes) refl)
 
 -- A control value stands for at most 4,096 bytes.
-few-by : (g : Gathering) (last gather : List ℕ) (d : Bool) → g .begun ≡ d → length gather ≡ 4096 → length (bytesOf (joinerOf g last gather .gathered)) ≤ 4096
+few-by : (g : Gathering) (last gather : List ℕ) (d : Bool) → g .begun ≡ d → length gather ≡ messageSize → length (bytesOf (joinerOf g last gather .gathered)) ≤ messageSize
 unfolding joinerOf gatheredOf bytesOf
 few-by g last gather true e h = simp (e, length-take) (omega arith)
 few-by g last gather false e h = simp e (omega arith)
 
-pub few-joiner : (g : Gathering) (last gather : List ℕ) → length gather ≡ 4096 → length (bytesOf (joinerOf g last gather .gathered)) ≤ 4096
+pub few-joiner : (g : Gathering) (last gather : List ℕ) → length gather ≡ messageSize → length (bytesOf (joinerOf g last gather .gathered)) ≤ messageSize
 few-joiner g last gather h = few-by g last gather (g .begun) refl h
 
 -- ---- a step of the hub
@@ -79,18 +73,18 @@ module _ {hub : Hub} {line : List ℕ} {e : Event} {l : Listened} {line′ : Lis
   settled : {d : Done Joiner Output} {n : ℕ} {j : Joined} {r : Stepped} {gather message gather′ message′ : List ℕ} →
       through heardStep (joinerAt hub line gather) (framerAt hub line e .told) ≡ d →
       Kept (joinerAt hub line gather) (receivedIn (l .halves) line′ n) d →
-      n ≤ 255 →
+      n ≤ bodySize →
       (accepts (d .told) ≡ true → length (receivedIn (l .halves) line′ n) ≡ n) →
       (accepts (d .told) ≡ true → framerAt hub line e .next ≡ hearing []) →
       Joins d gather message j gather′ message′ →
       Settles (l .halves) n j r →
       Steps hub line gather message e r line′ gather′ message′
-  unfolding framed stateOf controlAfter joinerOf
+  unfolding framed stateOf controlAfter joinerOf accepts
   settled {d} {n} {j} {r} {gather} {message} t k₁ h size idle joins settles =
       let a = accepts (d .told) in
       let g = gatheringOf (d .next .barred) (d .next .gathered) in
       let next : Hub = record { line = halvesBehind a (l .halves) n; gathering = g } in
-      let hub-is : r .hub ≡ next = ap (λ (s : Stepped). s .hub) (settles .is) ∙ rw (joins .told-is, accepts-name (d .told), joins .gathering-is) refl in
+      let hub-is : r .hub ≡ next = ap (λ (s : Stepped). s .hub) (settles .is) ∙ rw (joins .told-is, joins .gathering-is) refl in
       let last-is : unmarked (keptIn (next .line) line′) ≡ d .next .last =
       ap unmarked (kept-behind k a n h) ∙ (unmarked-pick a (receivedIn (l .halves) line′ n) (keptIn (hub .line) line) ∙ sym (k₁ .last-is)) in
       let long : a ≡ true → length (d .next .last) ≡ n = λ q. rw (k₁ .last-is, q) (length-unmarked (receivedIn (l .halves) line′ n) ∙ size q) in
@@ -104,11 +98,12 @@ module _ {hub : Hub} {line : List ℕ} {e : Event} {l : Listened} {line′ : Lis
       }
 
   -- Where no packet was accepted, nothing but the line has changed.
-  stayed : {gather message : List ℕ} {r : Stepped} {g : Gathering} {ts : List Output} → length gather ≡ 4096 → accepts ts ≡ false → messageOf ts ≡ [] →
+  stayed : {gather message : List ℕ} {r : Stepped} {g : Gathering} {ts : List Output} → length gather ≡ messageSize → accepts ts ≡ false → messageOf ts ≡ [] →
       through heardStep (joinerAt hub line gather) (framerAt hub line e .told) ≡ record { next = joinerAt hub line gather; told = ts } →
       Gatherings (hub .gathering) g →
       Stays (l .halves) g (toldOf ts) r →
       Steps hub line gather message e r line′ gather message
+  unfolding accepts
   stayed {gather} {message} {g = g} {ts = ts} room a m t sound stays =
       settled {n = 0} t
       (record { few = few-joiner (soundOf (hub .gathering)) (keptIn (hub .line) line) gather room; last-is = simp a })
@@ -116,23 +111,23 @@ module _ {hub : Hub} {line : List ℕ} {e : Event} {l : Listened} {line′ : Lis
       (λ z. never (cc))
       (λ z. never (cc))
       (still (soundOf (hub .gathering)) (keptIn (hub .line) line) gather message ts (rw (sound .is) at (sound .sound)) room refl refl m (record { is = refl }))
-      (record { is = simp (accepts-name ts ∙ a, sym (sound .is)) (stays .is) })
+      (record { is = simp (a, sym (sound .is)) (stays .is) })
 
-  pub step-nothing : {gather message : List ℕ} {r : Stepped} {g : Gathering} → length gather ≡ 4096 → l .found ≡ Nothing → Gatherings (hub .gathering) g →
+  pub step-nothing : {gather message : List ℕ} {r : Stepped} {g : Gathering} → length gather ≡ messageSize → l .found ≡ Nothing → Gatherings (hub .gathering) g →
       Stays (l .halves) g told.Nothing r → Steps hub line gather message e r line′ gather message
   unfolding through accepts messageOf toldOf
   step-nothing room q sound stays = stayed {ts = []} room refl refl (rw (listened-nothing k q) refl) sound stays
 
-  pub step-refused : {gather message : List ℕ} {r : Stepped} {g : Gathering} {x : Refusal} → length gather ≡ 4096 → l .found ≡ Refused x → Gatherings (hub .gathering) g →
+  pub step-refused : {gather message : List ℕ} {r : Stepped} {g : Gathering} {x : Refusal} → length gather ≡ messageSize → l .found ≡ Refused x → Gatherings (hub .gathering) g →
       Stays (l .halves) g (told.Refused x) r → Steps hub line gather message e r line′ gather message
-  unfolding heardStep accepts messageOf toldOf nameOf messageBytes
+  unfolding heardStep accepts toldOf
   step-refused {gather} {x = x} room q sound stays =
-      stayed {ts = refused x ∷ []} room refl refl
+      stayed {ts = refusing x} room refl (refusing-hands-out x)
       (rw (listened-refused k q) (through-one heardStep (joinerAt hub line gather) (noPacket x)))
       sound
       stays
 
-  pub step-packet : {gather message gather′ message′ : List ℕ} {r : Stepped} {g : Gathering} {h : Head} → length gather ≡ 4096 → l .found ≡ Packet h → Gatherings (hub .gathering) g →
+  pub step-packet : {gather message gather′ message′ : List ℕ} {r : Stepped} {g : Gathering} {h : Head} → length gather ≡ messageSize → l .found ≡ Packet h → Gatherings (hub .gathering) g →
       Receives (l .halves) g (h .length) line′ gather message r gather′ message′ → Steps hub line gather message e r line′ gather′ message′
   unfolding heardStep
   step-packet {gather} {message} {gather′} {message′} {r} {g} {h} room q sound receives =
@@ -160,16 +155,8 @@ received-packet {j = j} received last joins settles = record { joined = j; joins
 
 -- ---- one event
 
-name-bytes : (ts : List Output) → nameBytes (toldOf ts) ≡ answerOf ts
-unfolding toldOf nameOf answerOf answerBytes
-name-bytes [] = refl
-name-bytes (added ∷ ts) = refl
-name-bytes (repeated ∷ ts) = refl
-name-bytes (handed code bytes ∷ ts) = refl
-name-bytes (refused r ∷ ts) = refl
-
 -- Number 13.
-hear-small : {hub : Hub} {line gather answer message : List ℕ} {e : Event} {r : Answered} → tooSmall answer message ≡ true → NoRoom hub r →
+hear-small : {hub : Hub} {line gather answer message : List ℕ} {e : Event} {r : Taken} → tooSmall answer message ≡ true → NoRoom hub r →
     Hears hub line gather answer message e r line gather answer message
 hear-small {hub} {line} {gather} {answer} {message} t k =
     record {
@@ -181,15 +168,15 @@ hear-small {hub} {line} {gather} {answer} {message} t k =
       message-is = simp (t, over-nil);
     }
 
-pub hear-answer : {hub : Hub} {line gather answer message : List ℕ} {e : Event} {r : Answered} → length answer < 7 → NoRoom hub r →
+pub hear-answer : {hub : Hub} {line gather answer message : List ℕ} {e : Event} {r : Taken} → length answer < hubAnswerSize → NoRoom hub r →
     Hears hub line gather answer message e r line gather answer message
 unfolding tooSmall
-hear-answer {answer = answer} h k = hear-small (simp (lt-ltb (length answer) 7 h)) k
+hear-answer {answer = answer} h k = hear-small (simp (lt-ltb (length answer) hubAnswerSize h)) k
 
-pub hear-message : {hub : Hub} {line gather answer message : List ℕ} {e : Event} {r : Answered} → 7 ≤ length answer → length message < 4096 → NoRoom hub r →
+pub hear-message : {hub : Hub} {line gather answer message : List ℕ} {e : Event} {r : Taken} → hubAnswerSize ≤ length answer → length message < messageSize → NoRoom hub r →
     Hears hub line gather answer message e r line gather answer message
 unfolding tooSmall
-hear-message {answer = answer} {message = message} a h k = hear-small (simp (le-ltb (length answer) 7 a, lt-ltb (length message) 4096 h)) k
+hear-message {answer = answer} {message = message} a h k = hear-small (simp (le-ltb (length answer) hubAnswerSize a, lt-ltb (length message) messageSize h)) k
 
 cleared-state : (e : Event) (hub : Hub) (line gather : List ℕ) (s : HubState) → stateOf hub line gather ≡ s → stateOf (clearedControl e hub) line gather ≡ cleared e s
 unfolding cleared stateOf lineIn lineOf begunOf halfOf joinerOf soundOf gatheredOf keptIn lastOf unmarked
@@ -198,18 +185,18 @@ cleared-state CharacterGap hub line gather s q = q
 cleared-state MessageGap hub line gather s q = refl
 
 pub hear-taken : {hub : Hub} {line gather answer message line′ gather′ answer′ message′ : List ℕ} {e : Event} {s : Stepped} {count : ℕ} {next : Hub} →
-    7 ≤ length answer →
-    4096 ≤ length message →
+    hubAnswerSize ≤ length answer →
+    messageSize ≤ length message →
     Steps hub line gather message e s line′ gather′ message′ →
     Writes (nameBytes (s .told)) answer count answer′ →
     Cleared (s .hub) e next →
     Hears hub line gather answer message e (record { hub = next; told = s .told; answer = count }) line′ gather′ answer′ message′
-unfolding tooSmall hubStep
+unfolding tooSmall hubStep framed
 hear-taken {hub} {line} {gather} {answer} {message} {line′} {gather′} {answer′} {message′} {e} {s} {count} {next} a m steps writes clears =
-    let p = le-ltb (length answer) 7 a in
-    let q = le-ltb (length message) 4096 m in
+    let p = le-ltb (length answer) hubAnswerSize a in
+    let q = le-ltb (length message) messageSize m in
     let ts = framed heardStep (stateOf hub line gather) e .told in
-    let name : nameBytes (s .told) ≡ answerOf ts = ap nameBytes (steps .told-is) ∙ name-bytes ts in
+    let name : nameBytes (s .told) ≡ answerOf ts = ap nameBytes (steps .told-is) ∙ name-answers (event-happens (stateOf hub line gather) e .outcome) in
     record {
       is = simp (p, q) (rw (clears .is, steps .hub-is, steps .told-is, writes .is, name) refl);
       next = simp (p, q) (rw (clears .is) (cleared-state e (s .hub) line′ gather′ (framed heardStep (stateOf hub line gather) e .next) (steps .next)));

@@ -15,14 +15,16 @@ use Rattle.words.proofs.Lists.{over-nil, over-take, over-behind, length-over, p
 use Rattle.packet.specs.Opcodes.{reader, decodeData}
 use Rattle.packet.specs.Packet.{dataIn, unmarked}
 use Rattle.packet.specs.Promises.{DataPart, Allowed, Resent, IsAnswer}
+use Rattle.packet.specs.Sizes.{messageSize}
 use Rattle.packet.specs.declared.Refusal.the-variants as refusal
-use Rattle.hub.specs.Joiner.{none, some, Joiner, Output, added, repeated, handed, refused, typeIn, pieceIn, otherType, bytesOf, barring, joined, adding, joinStep}
-use Rattle.hub.specs.Hub.{decodeStep, packetStep, messageBytes}
-use Rattle.hub.specs.Promises.{nameOf, toldOf, messageOf, Sound, gatheredOf, joinerOf, gatheringOf, Closed, OtherType, Joins, Adds, Keeps, HandsOut, Bars, Unchanged}
+use Rattle.hub.specs.Joiner.{none, some, Joiner, Output, added, repeated, handed, acknowledged, refusing, typeIn, pieceIn, otherType, bytesOf, barring, joined, adding, joinStep}
+use Rattle.hub.specs.Hub.{decodeStep, packetStep}
+use Rattle.hub.specs.Promises.{toldOf, messageOf, Sound, gatheredOf, joinerOf, gatheringOf, Closed, OtherType, Joins, Adds, Keeps, HandsOut, Bars, Unchanged}
 use Rattle.hub.specs.declared.Gathering.{Gathering}
 use Rattle.hub.specs.declared.Told.{Told}
 use Rattle.hub.specs.declared.Told.the-variants as told
 use Rattle.hub.specs.declared.Joined.{Joined}
+use Rattle.hub.proofs.Control.{refusing-hands-out}
 
 -- ---- what the control value and the gather buffer stand for
 
@@ -44,19 +46,19 @@ module _ (g : Gathering) (gather : List ℕ) where
     pub bytes-gathered : bytesOf (gatheredOf g gather) ≡ take (g .count) gather
     bytes-gathered = bytes-by (g .begun) refl
 
-gathering-by : (barred begun : Bool) (code count : ℕ) (gather : List ℕ) → Sound (record { barred = barred; begun = begun; code = code; count = count }) → length gather ≡ 4096 →
+gathering-by : (barred begun : Bool) (code count : ℕ) (gather : List ℕ) → Sound (record { barred = barred; begun = begun; code = code; count = count }) → length gather ≡ messageSize →
     gatheringOf barred (gatheredOf (record { barred = barred; begun = begun; code = code; count = count }) gather) ≡ record { barred = barred; begun = begun; code = code; count = count }
 unfolding gatheredOf
 gathering-by barred true code count gather s l = rw (length-take-le count gather (let m = s .few in omega arith)) refl
 gathering-by barred false code count gather s l = rw (s .closed refl .0, s .closed refl .1) refl
 
-pub gathering-back : (g : Gathering) (gather : List ℕ) → Sound g → length gather ≡ 4096 → gatheringOf (g .barred) (gatheredOf g gather) ≡ g
+pub gathering-back : (g : Gathering) (gather : List ℕ) → Sound g → length gather ≡ messageSize → gatheringOf (g .barred) (gatheredOf g gather) ≡ g
 gathering-back g gather s l = gathering-by (g .barred) (g .begun) (g .code) (g .count) gather s l
 
 -- ---- steps that write nothing
 
 -- What changes nothing leaves every byte.
-pub still : (g : Gathering) (last gather message : List ℕ) (outs : List Output) {d : Done Joiner Output} {t : Told} {r : Joined} → Sound g → length gather ≡ 4096 →
+pub still : (g : Gathering) (last gather message : List ℕ) (outs : List Output) {d : Done Joiner Output} {t : Told} {r : Joined} → Sound g → length gather ≡ messageSize →
     d ≡ record { next = joinerOf g last gather; told = outs } → t ≡ toldOf outs → messageOf outs ≡ [] → Unchanged g t r → Joins d gather message r gather message
 unfolding joinerOf
 still g last gather message outs s l e n m u =
@@ -69,8 +71,9 @@ still g last gather message outs s l e n m u =
     })
 
 bars-joins : (j : Joiner) {d : Done Joiner Output} {gather message : List ℕ} {r : Joined} → d ≡ barring j → Bars r → Joins d gather message r gather message
-unfolding barring toldOf nameOf bytesOf messageOf messageBytes over
-bars-joins j e b = rw e (record { told-is = rw (b .is) refl; gathering-is = rw (b .is) refl; gather-is = refl; message-is = refl })
+unfolding barring toldOf bytesOf over
+bars-joins j {message = message} e b =
+    rw e (record { told-is = rw (b .is) refl; gathering-is = rw (b .is) refl; gather-is = refl; message-is = sym (rw (refusing-hands-out refusal.Barred) (over-nil message)) })
 
 -- ---- pieces
 
@@ -101,48 +104,48 @@ hands-out {code} {at} {piece} {gather} {message} {message₁} {part} h l first s
 
 -- ---- the joining itself
 
-module _ (g : Gathering) (last gather body carried : List ℕ) {t : Bool} (s : Sound g) (l : length gather ≡ 4096) (q : carried ≡ dataIn body) (p : OtherType g (getD carried 0 0) t) where
+module _ (g : Gathering) (last gather body carried : List ℕ) {t : Bool} (s : Sound g) (l : length gather ≡ messageSize) (q : carried ≡ dataIn body) (p : OtherType g (getD carried 0 0) t) where
   adding-is :
       adding (joinerOf g last gather) body
       ≡ pick t (barring (joinerOf g last gather))
-      (pick (ltb 4096 (g .count + (length carried - 1))) (barring (joinerOf g last gather)) (joined (joinerOf g last gather) body))
+      (pick (ltb messageSize (g .count + (length carried - 1))) (barring (joinerOf g last gather)) (joined (joinerOf g last gather) body))
   unfolding adding joinerOf typeIn pieceIn
   adding-is =
       let m = s .few in
       simp (sym q, other-gathered g gather (getD carried 0 0), sym (p .is), bytes-gathered g gather s, length-take-le (g .count) gather (omega arith), length-drop 1 carried)
 
-  module _ (e : t ≡ false) (n : g .count + (length carried - 1) ≤ 4096) where
+  module _ (e : t ≡ false) (n : g .count + (length carried - 1) ≤ messageSize) where
     adding-joined : adding (joinerOf g last gather) body ≡ joined (joinerOf g last gather) body
-    adding-joined = adding-is ∙ simp (e, le-ltb 4096 (g .count + (length carried - 1)) n)
+    adding-joined = adding-is ∙ simp (e, le-ltb messageSize (g .count + (length carried - 1)) n)
 
     whole : bytesOf (gatheredOf g gather) ++ pieceIn body ≡ take (g .count) gather ++ drop 1 carried
     unfolding pieceIn
     whole = rw (← q, bytes-gathered g gather s) refl
 
     adding-last : getD body 3 0 / 2 % 2 ≡ 0 → adding (joinerOf g last gather) body
-        ≡ record { next = record { barred = false; last = unmarked body; gathered = none }; told = handed (getD carried 0 0) (take (g .count) gather ++ drop 1 carried) ∷ [] }
+        ≡ record { next = record { barred = false; last = unmarked body; gathered = none }; told = acknowledged (handed (getD carried 0 0) (take (g .count) gather ++ drop 1 carried)) }
     unfolding joined joinerOf typeIn
     adding-last z = adding-joined ∙ simp (eq-eqb (getD body 3 0 / 2 % 2) 0 z, whole, sym q)
 
     adding-more : (getD body 3 0 / 2 % 2 ≡ 0 → ⊥) → adding (joinerOf g last gather) body
-        ≡ record { next = record { barred = false; last = unmarked body; gathered = some (getD carried 0 0) (take (g .count) gather ++ drop 1 carried) }; told = added ∷ [] }
+        ≡ record { next = record { barred = false; last = unmarked body; gathered = some (getD carried 0 0) (take (g .count) gather ++ drop 1 carried) }; told = acknowledged added }
     unfolding joined joinerOf typeIn
     adding-more z = adding-joined ∙ simp (ne-eqb (getD body 3 0 / 2 % 2) 0 z, whole, sym q)
 
-length-whole : (g : Gathering) (gather piece : List ℕ) → Sound g → length gather ≡ 4096 → length (take (g .count) gather ++ piece) ≡ g .count + length piece
+length-whole : (g : Gathering) (gather piece : List ℕ) → Sound g → length gather ≡ messageSize → length (take (g .count) gather ++ piece) ≡ g .count + length piece
 length-whole g gather piece s l = let m = s .few in simp (length-append, length-take) (omega arith)
 
-module _ {g : Gathering} {body carried gather message : List ℕ} {t : Bool} {r : Joined} (s : Sound g) (l : length gather ≡ 4096) (q : carried ≡ dataIn body) (p : OtherType g (getD carried 0 0) t) where
+module _ {g : Gathering} {body carried gather message : List ℕ} {t : Bool} {r : Joined} (s : Sound g) (l : length gather ≡ messageSize) (q : carried ≡ dataIn body) (p : OtherType g (getD carried 0 0) t) where
   pub adds-other : t ≡ true → Bars r → Adds g body gather message r gather message
   adds-other e b = record { joins = λ last. bars-joins (joinerOf g last gather) (adding-is g last gather body carried s l q p ∙ simp e) b }
 
-  pub adds-much : t ≡ false → 4096 < g .count + (length carried - 1) → Bars r → Adds g body gather message r gather message
+  pub adds-much : t ≡ false → messageSize < g .count + (length carried - 1) → Bars r → Adds g body gather message r gather message
   adds-much e n b =
-      record { joins = λ last. bars-joins (joinerOf g last gather) (adding-is g last gather body carried s l q p ∙ simp (e, lt-ltb 4096 (g .count + (length carried - 1)) n)) b }
+      record { joins = λ last. bars-joins (joinerOf g last gather) (adding-is g last gather body carried s l q p ∙ simp (e, lt-ltb messageSize (g .count + (length carried - 1)) n)) b }
 
-  pub adds-last : {message′ : List ℕ} → t ≡ false → g .count + (length carried - 1) ≤ 4096 → getD body 3 0 / 2 % 2 ≡ 0 →
+  pub adds-last : {message′ : List ℕ} → t ≡ false → g .count + (length carried - 1) ≤ messageSize → getD body 3 0 / 2 % 2 ≡ 0 →
       HandsOut (getD carried 0 0) (g .count) (take (length carried - 1) (drop 1 carried)) gather message r message′ → Adds g body gather message r gather message′
-  unfolding toldOf nameOf bytesOf messageOf messageBytes
+  unfolding toldOf bytesOf messageOf
   adds-last e n z k =
       record {
         joins = λ last.
@@ -155,9 +158,9 @@ module _ {g : Gathering} {body carried gather message : List ℕ} {t : Bool} {r 
             });
       }
 
-  pub adds-more : {gather′ : List ℕ} → t ≡ false → g .count + (length carried - 1) ≤ 4096 → (getD body 3 0 / 2 % 2 ≡ 0 → ⊥) →
+  pub adds-more : {gather′ : List ℕ} → t ≡ false → g .count + (length carried - 1) ≤ messageSize → (getD body 3 0 / 2 % 2 ≡ 0 → ⊥) →
       Keeps (getD carried 0 0) (g .count) (take (length carried - 1) (drop 1 carried)) gather r gather′ → Adds g body gather message r gather′ message
-  unfolding toldOf nameOf bytesOf messageOf messageBytes
+  unfolding toldOf bytesOf messageOf
   adds-more e n z k =
       let m = s .few in
       let front : length (take (g .count) gather) ≡ g .count = length-take-le (g .count) gather (omega arith) in
@@ -186,9 +189,9 @@ unfolding joinStep joinerOf
 joins-barred {g} {gather} last body s e b = bars-joins (joinerOf g last gather) (simp e) b
 
 module _ {g : Gathering} {last body gather message : List ℕ} {t : Bool} {r : Joined} (s : Sound g) (e : g .barred ≡ false) (p : Resent last body t) where
-  pub joins-repeated : length gather ≡ 4096 → t ≡ true → Unchanged g told.Repeated r → Joins (joinStep (joinerOf g last gather) body) gather message r gather message
-  unfolding joinStep joinerOf toldOf nameOf messageOf messageBytes
-  joins-repeated l f u = still g last gather message (repeated ∷ []) s l (simp (e, sym (p .is) ∙ f)) refl refl u
+  pub joins-repeated : length gather ≡ messageSize → t ≡ true → Unchanged g told.Repeated r → Joins (joinStep (joinerOf g last gather) body) gather message r gather message
+  unfolding joinStep joinerOf toldOf messageOf
+  joins-repeated l f u = still g last gather message (acknowledged repeated) s l (simp (e, sym (p .is) ∙ f)) refl refl u
 
   pub joins-added : {gather′ message′ : List ℕ} → t ≡ false → Adds g body gather message r gather′ message′ → Joins (joinStep (joinerOf g last gather) body) gather message r gather′ message′
   unfolding joinStep joinerOf
@@ -197,9 +200,9 @@ module _ {g : Gathering} {last body gather message : List ℕ} {t : Bool} {r : J
 -- ---- the data
 
 module _ {g : Gathering} {body carried gather message : List ℕ} {r : Joined} (last : List ℕ) (s : Sound g) (p : DataPart body carried) where
-  pub decodes-none : length gather ≡ 4096 → length carried ≡ 0 → Unchanged g (told.Refused refusal.Data) r → Joins (decodeStep (joinerOf g last gather) body) gather message r gather message
-  unfolding decodeStep toldOf nameOf messageOf messageBytes
-  decodes-none l z u = still g last gather message (refused refusal.Data ∷ []) s l (simp (sym (p .is), eq-eqb (length carried) 0 z)) refl refl u
+  pub decodes-none : length gather ≡ messageSize → length carried ≡ 0 → Unchanged g (told.Refused refusal.Data) r → Joins (decodeStep (joinerOf g last gather) body) gather message r gather message
+  unfolding decodeStep toldOf messageOf
+  decodes-none l z u = still g last gather message (refusing refusal.Data) s l (simp (sym (p .is), eq-eqb (length carried) 0 z)) refl (refusing-hands-out refusal.Data) u
 
   pub decodes-some : {gather′ message′ : List ℕ} → (length carried ≡ 0 → ⊥) → Joins (joinStep (joinerOf g last gather) body) gather message r gather′ message′ →
       Joins (decodeStep (joinerOf g last gather) body) gather message r gather′ message′
@@ -208,27 +211,27 @@ module _ {g : Gathering} {body carried gather message : List ℕ} {r : Joined} (
 
 -- ---- the packet
 
-module _ {g : Gathering} {gather message : List ℕ} {a : Bool} {r : Joined} (last body : List ℕ) (s : Sound g) (l : length gather ≡ 4096) (p : IsAnswer (getD body 1 0) a) where
+module _ {g : Gathering} {gather message : List ℕ} {a : Bool} {r : Joined} (last body : List ℕ) (s : Sound g) (l : length gather ≡ messageSize) (p : IsAnswer (getD body 1 0) a) where
   pub judges-answer : a ≡ true → Unchanged g told.Nothing r → Joins (packetStep (joinerOf g last gather) body) gather message r gather message
   unfolding packetStep toldOf messageOf
   judges-answer e u = still g last gather message [] s l (simp (sym (p .is) ∙ e)) refl refl u
 
   pub judges-source : a ≡ false → (getD body 2 0 ≡ reader → ⊥) → Unchanged g (told.Refused refusal.Source) r → Joins (packetStep (joinerOf g last gather) body) gather message r gather message
-  unfolding packetStep toldOf nameOf messageOf messageBytes
-  judges-source e h u = still g last gather message (refused refusal.Source ∷ []) s l (simp (sym (p .is) ∙ e, ne-eqb (getD body 2 0) reader h)) refl refl u
+  unfolding packetStep toldOf messageOf
+  judges-source e h u = still g last gather message (refusing refusal.Source) s l (simp (sym (p .is) ∙ e, ne-eqb (getD body 2 0) reader h)) refl (refusing-hands-out refusal.Source) u
 
   module _ {b : Bool} (e : a ≡ false) (f : getD body 2 0 ≡ reader) (w : Allowed (getD body 1 0) (getD body 3 0) b) where
     pub judges-status : b ≡ false → Unchanged g (told.Refused refusal.Status) r → Joins (packetStep (joinerOf g last gather) body) gather message r gather message
-    unfolding packetStep toldOf nameOf messageOf messageBytes
-    judges-status h u = still g last gather message (refused refusal.Status ∷ []) s l (simp (sym (p .is) ∙ e, eq-eqb (getD body 2 0) reader f, sym (w .is) ∙ h)) refl refl u
+    unfolding packetStep toldOf messageOf
+    judges-status h u = still g last gather message (refusing refusal.Status) s l (simp (sym (p .is) ∙ e, eq-eqb (getD body 2 0) reader f, sym (w .is) ∙ h)) refl (refusing-hands-out refusal.Status) u
 
     pub judges-opcode : b ≡ true → (getD body 1 0 ≡ decodeData → ⊥) → Unchanged g (told.Refused refusal.Opcode) r → Joins (packetStep (joinerOf g last gather) body) gather message r gather message
-    unfolding packetStep toldOf nameOf messageOf messageBytes
+    unfolding packetStep toldOf messageOf
     judges-opcode h o u =
-        still g last gather message (refused refusal.Opcode ∷ []) s l
+        still g last gather message (refusing refusal.Opcode) s l
         (simp (sym (p .is) ∙ e, eq-eqb (getD body 2 0) reader f, sym (w .is) ∙ h, ne-eqb (getD body 1 0) decodeData o))
         refl
-        refl
+        (refusing-hands-out refusal.Opcode)
         u
 
     pub judges-decode : {gather′ message′ : List ℕ} → b ≡ true → getD body 1 0 ≡ decodeData → Joins (decodeStep (joinerOf g last gather) body) gather message r gather′ message′ →

@@ -3,6 +3,8 @@ pub mod Control
 pub mod Hearing
 pub mod Joining
 pub mod Outcomes
+pub mod Refusing
 pub mod Short
+pub mod ShortWay
 pub mod Theorems
 pub mod Unique

@@ -5,6 +5,7 @@ use mathlib.Core.Bool.{true}
 use mathlib.Core.List.{List}
 use lib.ListN.{length}
 use Rattle.words.proofs.Lists.{over-nil, never}
+use Rattle.packet.specs.Sizes.{messageSize}
 use Rattle.framer.specs.Halves.{goesOn, GoesOn as Framing}
 use Rattle.framer.specs.declared.Event.{Event}
 use Rattle.framer.specs.declared.Event.the-variants.{Byte, CharacterGap, MessageGap}
@@ -12,7 +13,7 @@ use Rattle.framer.specs.declared.Halves.{Halves}
 use Rattle.framer.specs.declared.Going.{Going as FramerGoing}
 use Rattle.framer.specs.declared.Going.the-variants as framer
 use Rattle.framer.proofs.Quick.{went-on, was-left, goes-on, goes-no-further}
-use Rattle.hub.specs.Promises.{Hears, GoesOn, on, left, Gatherings, Cleared}
+use Rattle.hub.specs.Promises.{hubAnswerSize, Hears, GoesOn, on, left, Gatherings, Cleared}
 use Rattle.hub.specs.declared.Gathering.{Gathering}
 use Rattle.hub.specs.declared.Hub.{Hub}
 use Rattle.hub.specs.declared.Going.{Going}
@@ -39,7 +40,7 @@ nextOf hub (On next) = next
 nextOf hub Left = hub
 
 hears-on : {hub next : Hub} {line line′ gather answer message : List ℕ} {e : Event} {r : Going} → GoesOn hub line e r line′ → r ≡ On next →
-    length gather ≡ 4096 → 7 ≤ length answer → 4096 ≤ length message →
+    length gather ≡ messageSize → hubAnswerSize ≤ length answer → messageSize ≤ length message →
     Hears hub line gather answer message e (record { hub = nextOf hub r; told = told.Nothing; answer = 0 }) line′ gather answer message
 hears-on {hub} {line = line} {gather = gather} {answer = answer} {e = e} (on {halves} {g = joining} goes k sound) q room a m =
     hear-taken a m (step-nothing k room refl sound (record { is = refl })) (record { is = refl; answer-is = sym (over-nil answer) })
@@ -48,7 +49,7 @@ hears-on (left g k) q room a m = never (cc)
 
 -- Where it goes on, what `hear` promises, whatever stands in the rooms.
 pub going-hears : {hub next : Hub} {line line′ gather answer message : List ℕ} {e : Event} {r : Going} → GoesOn hub line e r line′ → r ≡ On next →
-    length gather ≡ 4096 → 7 ≤ length answer → 4096 ≤ length message →
+    length gather ≡ messageSize → hubAnswerSize ≤ length answer → messageSize ≤ length message →
     Hears hub line gather answer message e (record { hub = next; told = told.Nothing; answer = 0 }) line′ gather answer message
 going-hears {hub} {gather = gather} {answer = answer} {message = message} k q room a m =
     rw (ap (nextOf hub) q) at (hears-on {gather = gather} {answer = answer} {message = message} k q room a m)

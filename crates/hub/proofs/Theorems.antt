@@ -12,7 +12,8 @@ use Rattle.words.proofs.Lists.{bytes-cons, same-refl}
 use Rattle.words.proofs.Machine.{through-one, each-all, run-keeps}
 use Rattle.packet.specs.Opcodes.{host, reader, decodeData}
 use Rattle.packet.specs.Packet.{bodyOf, seal, dataIn, statusAllowed, unmarked, resentEqual, isAnswer, replyBody}
-use Rattle.packet.specs.Refusals.{numberOf, causeOf}
+use Rattle.packet.specs.Refusals.{numberOf, causeOf, nakBytes}
+use Rattle.packet.specs.Sizes.{messageSize}
 use Rattle.packet.specs.declared.Refusal.{Refusal}
 use Rattle.packet.specs.declared.Refusal.the-variants.{Barred}
 use Rattle.packet.specs.declared.Reply.the-variants.{Ack, Nak}
@@ -24,14 +25,14 @@ use Rattle.framer.specs.declared.Event.{Event}
 use Rattle.framer.specs.declared.Event.the-variants.{Byte, CharacterGap, MessageGap}
 use Rattle.framer.proofs.Behind.{framed-run}
 use Rattle.framer.proofs.Theorems.{packet-found, bytesOf as eventsOf}
-use Rattle.hub.specs.Joiner.{none, Joiner, Output, repeated, handed, refused, bytesOf, typeIn, pieceIn, otherType, joinStep, adding, joined, barring}
-use Rattle.hub.specs.Hub.{HubState, switchedOn, afterRefusal, decodeStep, packetStep, heardStep, cleared, hubStep, answerBytes, messageBytes}
+use Rattle.hub.specs.Joiner.{none, Joiner, Output, repeated, handed, acknowledged, refusing, bytesOf, typeIn, pieceIn, otherType, joinStep, adding, joined, barring}
+use Rattle.hub.specs.Hub.{HubState, switchedOn, afterRefusal, decodeStep, packetStep, heardStep, cleared, hubStep}
 use Rattle.hub.specs.Promises.{toldOf, answerOf, messageOf, stateOf}
 use Rattle.hub.specs.declared.Hub.{Hub}
 use Rattle.hub.specs.declared.Told.the-variants as told
-use Rattle.hub.proofs.Control.{nak-bytes}
+use Rattle.hub.proofs.Control.{refusing-answers, refusing-hands-out}
 use Rattle.hub.proofs.Hearing.{few-joiner}
-use Rattle.hub.proofs.Outcomes.{Refusing, refusing, named-refused, barred-still, kept, short, NotHanded, Short, event-happens, event-line}
+use Rattle.hub.proofs.Outcomes.{Refusing, named-refused, barred-still, kept, short, NotHanded, Short, event-happens, event-line}
 use Rattle.hub.proofs.Calm.{calm-bytes, calm-run}
 
 -- A hub with nothing begun.
@@ -54,15 +55,15 @@ not-cleared MessageGap s h = absurd (h refl)
 
 -- ---- refusals
 
--- What a caller is told by name as a refusal is that one refusal.
-pub refusal-named : (s : HubState) (e : Event) {r : Refusal} → toldOf (hubStep s e .told) ≡ told.Refused r → hubStep s e .told ≡ refused r ∷ []
+-- What a caller is told by name as a refusal is that one refusal and its NAK.
+pub refusal-named : (s : HubState) (e : Event) {r : Refusal} → toldOf (hubStep s e .told) ≡ told.Refused r → hubStep s e .told ≡ refusing r
 unfolding hubStep framed
-refusal-named s e q = named-refused (event-happens s e .outcome) q
+refusal-named s e q = named-refused (event-happens s e .outcome) q .told-is
 
-module _ (s : HubState) (e : Event) {r : Refusal} (q : hubStep s e .told ≡ refused r ∷ []) where
-  happened : Refusing (event-happens s e .least) (s .core) r (through heardStep (s .core) (framerStep (s .line) e .told))
-  unfolding hubStep framed
-  happened = refusing (event-happens s e .outcome) q
+module _ (s : HubState) (e : Event) {r : Refusal} (q : hubStep s e .told ≡ refusing r) where
+  pub happened : Refusing (event-happens s e .least) (s .core) r (through heardStep (s .core) (framerStep (s .line) e .told))
+  unfolding hubStep framed toldOf
+  happened = named-refused (event-happens s e .outcome) (ap toldOf q)
 
   -- A refusal changes just that; a message gap then clears the hub.
   pub refusal-changes : hubStep s e .next ≡ cleared e (afterRefusal r s)
@@ -75,20 +76,19 @@ module _ (s : HubState) (e : Event) {r : Refusal} (q : hubStep s e .told ≡ ref
 
   -- Its number is one of those that are answered, so not 13.
   pub refusal-cause : causeOf r ≡ 0 → ⊥
-  refusal-cause = happened .answered
+  refusal-cause = happened .cause
 
   -- A refusal hands out no message.
   pub refusal-silent : messageOf (hubStep s e .told) ≡ []
-  unfolding messageOf messageBytes
-  refusal-silent = rw q refl
+  refusal-silent = rw q (refusing-hands-out r)
 
   -- A refusal is answered by the NAK of its cause.
   pub refusal-answered : answerOf (hubStep s e .told) ≡ seal (replyBody host (Nak (causeOf r)))
-  unfolding answerOf answerBytes
-  refusal-answered = rw q (nak-bytes (causeOf r) (happened .answered))
+  unfolding nakBytes
+  refusal-answered = rw q (refusing-answers r ∙ simp (ne-eqb (causeOf r) 0 (happened .cause)))
 
 -- After number 10 nothing is gathered, the hub is barred, and the last accepted packet is as it was.
-pub refusal-bars : (s : HubState) (e : Event) → hubStep s e .told ≡ refused Barred ∷ [] → (e ≡ MessageGap → ⊥) →
+pub refusal-bars : (s : HubState) (e : Event) → hubStep s e .told ≡ refusing Barred → (e ≡ MessageGap → ⊥) →
     hubStep s e .next .core ≡ record { barred = true; last = s .core .last; gathered = none }
 refusal-bars s e q g = rw (refusal-changes s e q, not-cleared e (afterRefusal Barred s) g) refl
 
@@ -118,9 +118,9 @@ pub barred-refuses : (j : Joiner) {body : List ℕ} → j .barred ≡ true → D
 unfolding joinStep
 barred-refuses j b k = decodes j k ∙ simp b
 
--- So the event that ends such a packet tells number 10, and nothing else.
+-- So the event that ends such a packet tells number 10 and its NAK, and nothing else.
 pub barred-answers : (s : HubState) (e : Event) {body : List ℕ} → s .core .barred ≡ true → framerStep (s .line) e .told ≡ packet body ∷ [] → Decodes body →
-    hubStep s e .told ≡ refused Barred ∷ []
+    hubStep s e .told ≡ refusing Barred
 unfolding barring
 barred-answers s e b q k = packet-heard s e q ∙ ap (λ (d : Done Joiner Output). d .told) (barred-refuses (s .core) b k)
 
@@ -146,13 +146,13 @@ packet-run j body k = calm-run (idle j) (calm-bytes (seal body)) ∙ (framed-run
 -- ---- repeats, and what is no repeat
 
 -- A resent equal of the last accepted packet is only acknowledged: nothing changes.
-pub repeat-acknowledged : (j : Joiner) {body : List ℕ} → j .barred ≡ false → Decodes body → resentEqual (j .last) body ≡ true → packetStep j body ≡ record { next = j; told = repeated ∷ [] }
+pub repeat-acknowledged : (j : Joiner) {body : List ℕ} → j .barred ≡ false → Decodes body → resentEqual (j .last) body ≡ true → packetStep j body ≡ record { next = j; told = acknowledged repeated }
 unfolding joinStep
 repeat-acknowledged j b k e = decodes j k ∙ simp (b, e)
 
 -- The same on the line, byte by byte.
 pub repeat-run : (j : Joiner) (body : List ℕ) → Body body → j .barred ≡ false → Decodes body → resentEqual (j .last) body ≡ true →
-    through hubStep (idle j) (eventsOf (seal body)) ≡ record { next = idle j; told = repeated ∷ [] }
+    through hubStep (idle j) (eventsOf (seal body)) ≡ record { next = idle j; told = acknowledged repeated }
 repeat-run j body w b k e = packet-run j body w ∙ rw (repeat-acknowledged j b k e) refl
 
 -- Any other packet, marked or not, is taken like a new one.
@@ -162,9 +162,9 @@ other-taken j body b e = simp (b, e)
 
 -- A piece of the same type that still fits is joined to what is gathered.
 pub piece-joined : (j : Joiner) {body : List ℕ} → j .barred ≡ false → Decodes body → resentEqual (j .last) body ≡ false → otherType (j .gathered) (typeIn body) ≡ false →
-    length (bytesOf (j .gathered)) + length (pieceIn body) ≤ 4096 → packetStep j body ≡ joined j body
+    length (bytesOf (j .gathered)) + length (pieceIn body) ≤ messageSize → packetStep j body ≡ joined j body
 unfolding adding
-piece-joined j {body} b k e t m = decodes j k ∙ (other-taken j body b e ∙ simp (t, le-ltb 4096 (length (bytesOf (j .gathered)) + length (pieceIn body)) m))
+piece-joined j {body} b k e t m = decodes j k ∙ (other-taken j body b e ∙ simp (t, le-ltb messageSize (length (bytesOf (j .gathered)) + length (pieceIn body)) m))
 
 -- ---- good packets
 
@@ -178,7 +178,7 @@ onePiece code p = bodyOf decodeData reader 0 (code ∷ p)
 
 module _ (code : ℕ) (p : List ℕ) (few : length p ≤ 250) where
   -- A hub just switched on hands out the piece's bytes with its type, and it is the last accepted packet.
-  pub good-packet : packetStep (switchedOn .core) (onePiece code p) ≡ record { next = record { barred = false; last = onePiece code p; gathered = none }; told = handed code p ∷ [] }
+  pub good-packet : packetStep (switchedOn .core) (onePiece code p) ≡ record { next = record { barred = false; last = onePiece code p; gathered = none }; told = acknowledged (handed code p) }
   unfolding resentEqual otherType typeIn pieceIn bytesOf joined unmarked bodyOf
   good-packet =
       let d = data-of decodeData reader 0 (code ∷ p) in
@@ -187,24 +187,24 @@ module _ (code : ℕ) (p : List ℕ) (few : length p ≤ 250) where
   module _ (c : code < 256) (b : Bytes p) where
     -- The same on the line, byte by byte.
     pub good-run : through hubStep switchedOn (eventsOf (seal (onePiece code p)))
-        ≡ record { next = idle (record { barred = false; last = onePiece code p; gathered = none }); told = handed code p ∷ [] }
+        ≡ record { next = idle (record { barred = false; last = onePiece code p; gathered = none }); told = acknowledged (handed code p) }
     good-run =
         packet-run (switchedOn .core) (onePiece code p) (body-of decodeData reader 0 (code ∷ p) (omega arith) (omega arith) (omega arith) (bytes-cons c b) (omega arith))
         ∙ rw good-packet refl
 
     -- The message room gets its bytes.
     pub good-message : messageOf (through hubStep switchedOn (eventsOf (seal (onePiece code p))) .told) ≡ p
-    unfolding messageOf messageBytes
+    unfolding messageOf
     good-message = rw good-run refl
 
     -- Its answer is ACK.
     pub good-answered : answerOf (through hubStep switchedOn (eventsOf (seal (onePiece code p))) .told) ≡ seal (replyBody host Ack)
-    unfolding answerOf answerBytes
+    unfolding answerOf
     good-answered = rw good-run refl
 
 -- Its marked copy is then only acknowledged.
 pub good-repeated : (code : ℕ) (p : List ℕ) (j : Joiner) → j .barred ≡ false → j .last ≡ onePiece code p →
-    packetStep j (bodyOf decodeData reader 1 (code ∷ p)) ≡ record { next = j; told = repeated ∷ [] }
+    packetStep j (bodyOf decodeData reader 1 (code ∷ p)) ≡ record { next = j; told = acknowledged repeated }
 unfolding resentEqual unmarked bodyOf
 good-repeated code p j b e = repeat-acknowledged j b (piece-decodes 1 code p (omega arith)) (rw e (same-refl (onePiece code p)))
 
@@ -212,7 +212,7 @@ good-repeated code p j b e = repeat-acknowledged j b (piece-decodes 1 code p (om
 
 -- At most 4,096 bytes wait.
 abbrev pub Few : HubState → Type 0
-Few s = length (bytesOf (s .core .gathered)) ≤ 4096
+Few s = length (bytesOf (s .core .gathered)) ≤ messageSize
 
 few-cleared : (e : Event) (s : HubState) → Few s → Few (cleared e s)
 unfolding cleared bytesOf
@@ -230,6 +230,6 @@ pub few-run : (s : HubState) (es : List Event) → Few s → Few (through hubSte
 few-run s es h = run-keeps hubStep Few (λ (e : Event). Unit {0}) Short (λ s e u f. few-step s e f) s (each-all (λ e. tt) es) h
 
 -- Whatever control value a caller gives, it stands for no more.
-pub few-control : (hub : Hub) (line gather : List ℕ) → length gather ≡ 4096 → Few (stateOf hub line gather)
+pub few-control : (hub : Hub) (line gather : List ℕ) → length gather ≡ messageSize → Few (stateOf hub line gather)
 unfolding stateOf
 few-control hub line gather h = few-joiner _ _ gather h

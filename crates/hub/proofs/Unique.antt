@@ -9,7 +9,7 @@ use Rattle.framer.specs.declared.Listened.{Listened}
 use Rattle.framer.proofs.Unique.{listen-unique}
 use Rattle.hub.specs.Promises.{SwitchedOn, Hears, GoesOn, on, left}
 use Rattle.hub.specs.declared.Hub.{Hub}
-use Rattle.hub.specs.declared.Answered.{Answered}
+use Rattle.hub.specs.declared.Taken.{Taken}
 use Rattle.hub.specs.declared.Gathering.{Gathering}
 use Rattle.hub.specs.declared.Going.{Going}
 use Rattle.hub.specs.declared.Going.the-variants.{On}
@@ -17,7 +17,7 @@ use Rattle.hub.specs.declared.Going.the-variants.{On}
 pub switched-on-unique : {r r′ : Hub} → SwitchedOn r → SwitchedOn r′ → r ≡ r′
 switched-on-unique p q = p .is ∙ sym (q .is)
 
-pub hear-unique : {hub : Hub} {line gather answer message line₁ gather₁ answer₁ message₁ line₂ gather₂ answer₂ message₂ : List ℕ} {e : Event} {r r′ : Answered} →
+pub hear-unique : {hub : Hub} {line gather answer message line₁ gather₁ answer₁ message₁ line₂ gather₂ answer₂ message₂ : List ℕ} {e : Event} {r r′ : Taken} →
     Hears hub line gather answer message e r line₁ gather₁ answer₁ message₁ →
     Hears hub line gather answer message e r′ line₂ gather₂ answer₂ message₂ →
     (r ≡ r′) × (line₁ ≡ line₂) × (gather₁ ≡ gather₂) × (answer₁ ≡ answer₂) × (message₁ ≡ message₂)

@@ -1,22 +1,21 @@
--- Document 01, the hub: what it does with each event, and what goes out.
+-- §9, the hub: what it does with each event, and what goes out.
 use Prim.Native.Nat.{ℕ}
 use mathlib.Core.Bool.{true, false}
-use mathlib.Core.List.{List, [], _∷_}
+use mathlib.Core.List.{List, []}
 use lib.Dec.{eqb, ltb}
 use lib.ListN.{length, getD}
 use Rattle.words.specs.Lists.{pick}
 use Rattle.words.specs.Machine.{Done}
-use Rattle.packet.specs.Opcodes.{host, reader, decodeData}
-use Rattle.packet.specs.Packet.{seal, dataIn, statusAllowed, replyBody, isAnswer}
-use Rattle.packet.specs.Refusals.{numberOf, causeOf}
+use Rattle.packet.specs.Opcodes.{reader, decodeData}
+use Rattle.packet.specs.Packet.{dataIn, statusAllowed, isAnswer}
+use Rattle.packet.specs.Refusals.{numberOf}
 use Rattle.packet.specs.declared.Refusal.{Refusal}
 use Rattle.packet.specs.declared.Refusal.the-variants.{Source, Status, Opcode, Data}
-use Rattle.packet.specs.declared.Reply.the-variants.{Ack, Nak}
 use Rattle.framer.specs.Framer.{hearing, deaf, Heard, packet, refused as noPacket}
 use Rattle.framer.specs.Behind.{Behind, framed}
 use Rattle.framer.specs.declared.Event.{Event}
 use Rattle.framer.specs.declared.Event.the-variants.{Byte, CharacterGap, MessageGap}
-use Rattle.hub.specs.Joiner.{none, Joiner, Output, added, repeated, handed, refused, joinStep}
+use Rattle.hub.specs.Joiner.{none, Joiner, Output, refusing, joinStep}
 
 -- The hub is the joiner behind a framer.
 abbrev pub HubState : Type 0
@@ -27,7 +26,7 @@ abbrev pub switchedOn : HubState
 switchedOn = record { line = hearing []; core = record { barred = false; last = []; gathered = none } }
 
 abbrev pub refuses : Joiner → Refusal → Done Joiner Output
-refuses j r = record { next = j; told = refused r ∷ [] }
+refuses j r = record { next = j; told = refusing r }
 
 -- CMD_ACK and CMD_NAK, right or wrong, do nothing. Else 4 to 7 in rising order, then the joining.
 unfoldable pub decodeStep : Joiner → List ℕ → Done Joiner Output
@@ -55,22 +54,6 @@ cleared MessageGap hub = switchedOn
 
 unfoldable pub hubStep : HubState → Event → Done HubState Output
 hubStep hub e = record { next = cleared e (framed heardStep hub e .next); told = framed heardStep hub e .told }
-
--- What goes out for each: the answer's bytes, and the message that is handed out.
-unfoldable pub nakBytes : ℕ → List ℕ
-nakBytes cause = pick (eqb cause 0) [] (seal (replyBody host (Nak cause)))
-
-unfoldable pub answerBytes : Output → List ℕ
-answerBytes added = seal (replyBody host Ack)
-answerBytes repeated = seal (replyBody host Ack)
-answerBytes (handed t bytes) = seal (replyBody host Ack)
-answerBytes (refused r) = nakBytes (causeOf r)
-
-unfoldable pub messageBytes : Output → List ℕ
-messageBytes added = []
-messageBytes repeated = []
-messageBytes (handed t bytes) = bytes
-messageBytes (refused r) = []
 
 -- What a refusal changes, for the theorems that say so: the packet begun is ended, 1 and 2 make the framer deaf, 10 drops what was gathered and bars.
 abbrev pub afterRefusal : Refusal → HubState → HubState

@@ -1,3 +1,4 @@
 pub mod Hub
 pub mod Joiner
 pub mod Promises
+pub mod Refused

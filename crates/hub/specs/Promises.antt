@@ -1,4 +1,4 @@
--- What the hub's call promises: what is told, the next state, the control value, and every byte of each lent buffer and room.
+-- What the hub's calls promise: what is told, the next state, the control value, and every byte of each lent buffer and room.
 use Prim.Native.Nat.{ℕ, _+_, _≤_}
 use mathlib.Core.Bool.{Bool, true, false, not}
 use mathlib.Core.List.{List, [], _∷_, _++_}
@@ -9,7 +9,8 @@ use Rattle.words.specs.Lists.{pick, either, over, overAt}
 use Rattle.words.specs.Machine.{Done}
 use Rattle.packet.specs.Opcodes.{host}
 use Rattle.packet.specs.Packet.{unmarked, seal, replyBody}
-use Rattle.packet.specs.Refusals.{causeOf}
+use Rattle.packet.specs.Refusals.{nakBytes}
+use Rattle.packet.specs.Sizes.{answerSize, messageSize}
 use Rattle.packet.specs.declared.Reply.the-variants.{Ack}
 use Rattle.packet.specs.declared.Refusal.the-variants as refusal
 use Rattle.framer.specs.Behind.{framed}
@@ -18,50 +19,56 @@ use Rattle.framer.specs.declared.Halves.{Halves}
 use Rattle.framer.specs.declared.Event.{Event}
 use Rattle.framer.specs.declared.Event.the-variants.{Byte, CharacterGap, MessageGap}
 use Rattle.framer.specs.declared.Found.the-variants.{Nothing}
-use Rattle.hub.specs.Joiner.{Gathered, none, some, Joiner, Output, added, repeated, handed, refused, bytesOf, adding}
-use Rattle.hub.specs.Hub.{HubState, packetStep, heardStep, hubStep, nakBytes, answerBytes, messageBytes}
+use Rattle.hub.specs.Joiner.{Gathered, none, some, Joiner, Output, added, repeated, handed, refused, answered, bytesOf, adding}
+use Rattle.hub.specs.Hub.{HubState, packetStep, heardStep, hubStep}
 use Rattle.hub.specs.declared.Gathering.{Gathering}
 use Rattle.hub.specs.declared.Hub.{Hub}
 use Rattle.hub.specs.declared.Told.{Told}
 use Rattle.hub.specs.declared.Told.the-variants as told
 use Rattle.hub.specs.declared.Joined.{Joined}
 use Rattle.hub.specs.declared.Stepped.{Stepped}
-use Rattle.hub.specs.declared.Answered.{Answered}
+use Rattle.hub.specs.declared.Taken.{Taken}
 use Rattle.hub.specs.declared.Going.{Going}
 use Rattle.hub.specs.declared.Going.the-variants.{On, Left}
 
 -- ---- the answers that are enums
 
--- What is told of one event, by name.
-unfoldable pub nameOf : Output → Told
-nameOf added = told.Added
-nameOf repeated = told.Repeated
-nameOf (handed code bytes) = told.Message code (length bytes)
-nameOf (refused r) = told.Refused r
-
+-- What is told of one event, by name: the first thing that has one.
 unfoldable pub toldOf : List Output → Told
 toldOf [] = told.Nothing
-toldOf (x ∷ xs) = nameOf x
+toldOf (added ∷ xs) = told.Added
+toldOf (repeated ∷ xs) = told.Repeated
+toldOf (handed code bytes ∷ xs) = told.Message code (length bytes)
+toldOf (refused r ∷ xs) = told.Refused r
+toldOf (answered bytes ∷ xs) = toldOf xs
 
 -- The bytes that go out for it, and the message that is handed out.
 unfoldable pub answerOf : List Output → List ℕ
 answerOf [] = []
-answerOf (x ∷ xs) = answerBytes x
+answerOf (added ∷ xs) = answerOf xs
+answerOf (repeated ∷ xs) = answerOf xs
+answerOf (handed code bytes ∷ xs) = answerOf xs
+answerOf (refused r ∷ xs) = answerOf xs
+answerOf (answered bytes ∷ xs) = bytes
 
 unfoldable pub messageOf : List Output → List ℕ
 messageOf [] = []
-messageOf (x ∷ xs) = messageBytes x
+messageOf (added ∷ xs) = messageOf xs
+messageOf (repeated ∷ xs) = messageOf xs
+messageOf (handed code bytes ∷ xs) = bytes
+messageOf (refused r ∷ xs) = messageOf xs
+messageOf (answered bytes ∷ xs) = messageOf xs
 
 -- ---- what control value and buffers stand for
 
 -- Any control value is taken: a count that the buffer cannot have is 0, and so is what belongs to no message begun.
 unfoldable pub soundOf : Gathering → Gathering
 soundOf g =
-    pick (g .begun) (record { barred = g .barred; begun = true; code = g .code; count = pick (leb (g .count) 4096) (g .count) 0 })
+    pick (g .begun) (record { barred = g .barred; begun = true; code = g .code; count = pick (leb (g .count) messageSize) (g .count) 0 })
     (record { barred = g .barred; begun = false; code = 0; count = 0 })
 
 pub record Sound (g : Gathering) : Type 0 where
-  pub few : g .count ≤ 4096
+  pub few : g .count ≤ messageSize
   pub closed : g .begun ≡ false → (g .code ≡ 0) × (g .count ≡ 0)
 
 unfoldable pub gatheredOf : Gathering → List ℕ → Gathered
@@ -78,18 +85,21 @@ gatheringOf barred (some code bytes) = record { barred = barred; begun = true; c
 unfoldable pub stateOf : Hub → List ℕ → List ℕ → HubState
 stateOf hub line gather = record { line = lineIn (hub .line) line; core = joinerOf (soundOf (hub .gathering)) (keptIn (hub .line) line) gather }
 
-abbrev pub offControl : Hub
-offControl = record { line = idleHalves; gathering = gatheringOf false none }
+abbrev pub onControl : Hub
+onControl = record { line = idleHalves; gathering = gatheringOf false none }
 
 -- ---- the control value and the line buffer afterwards
 
 -- A packet that was added or ended a message is the last accepted one, and stays where it was received.
+abbrev pub acceptsName : Told → Bool
+acceptsName told.Nothing = false
+acceptsName told.Added = true
+acceptsName told.Repeated = false
+acceptsName (told.Message code count) = true
+acceptsName (told.Refused r) = false
+
 unfoldable pub accepts : List Output → Bool
-accepts [] = false
-accepts (added ∷ xs) = true
-accepts (repeated ∷ xs) = false
-accepts (handed code bytes ∷ xs) = true
-accepts (refused r ∷ xs) = false
+accepts os = acceptsName (toldOf os)
 
 unfoldable pub controlAfter : Hub → List ℕ → Event → Done HubState Output → Hub
 controlAfter hub line e d =
@@ -102,7 +112,7 @@ controlAfter hub line e d =
 abbrev pub clearedControl : Event → Hub → Hub
 clearedControl (Byte b) hub = hub
 clearedControl CharacterGap hub = hub
-clearedControl MessageGap hub = offControl
+clearedControl MessageGap hub = onControl
 
 -- ---- promises
 
@@ -110,13 +120,17 @@ pub record Closed (barred : Bool) (r : Gathering) : Type 0 where
   pub is : r ≡ gatheringOf barred none
 
 pub record SwitchedOn (r : Hub) : Type 0 where
-  pub is : r ≡ offControl
+  pub is : r ≡ onControl
 
--- Number 13 is tested first, and the event is then not taken: 7 bytes for answers, 4,096 for the message.
+-- What every event asks of the answer room.
+abbrev pub hubAnswerSize : ℕ
+hubAnswerSize = answerSize
+
+-- Number 13 is tested first, and the event is then not taken.
 unfoldable pub tooSmall : List ℕ → List ℕ → Bool
-tooSmall answer message = either (ltb (length answer) 7) (ltb (length message) 4096)
+tooSmall answer message = either (ltb (length answer) hubAnswerSize) (ltb (length message) messageSize)
 
-pub record Hears (hub : Hub) (line gather answer message : List ℕ) (e : Event) (r : Answered) (line′ gather′ answer′ message′ : List ℕ) : Type 0 where
+pub record Hears (hub : Hub) (line gather answer message : List ℕ) (e : Event) (r : Taken) (line′ gather′ answer′ message′ : List ℕ) : Type 0 where
   pub is :
       r
       ≡ pick (tooSmall answer message) (record { hub = hub; told = told.Refused refusal.Room; answer = 0 })
@@ -167,16 +181,8 @@ pub record Unchanged (g : Gathering) (t : Told) (r : Joined) : Type 0 where
   pub is : r ≡ record { gathering = g; told = t }
 
 pub record Within (count r : ℕ) : Type 0 where
-  pub is : r ≡ pick (leb count 4096) count 0
-  pub most : r ≤ 4096
-
--- Which names of what is told mean that the packet was accepted.
-abbrev pub acceptsName : Told → Bool
-acceptsName told.Nothing = false
-acceptsName told.Added = true
-acceptsName told.Repeated = false
-acceptsName (told.Message code count) = true
-acceptsName (told.Refused r) = false
+  pub is : r ≡ pick (leb count messageSize) count 0
+  pub most : r ≤ messageSize
 
 pub record Accepts (t : Told) (r : Bool) : Type 0 where
   pub is : r ≡ acceptsName t
@@ -198,7 +204,7 @@ pub record Receives (h : Halves) (g : Gathering) (n : ℕ) (line gather message 
   pub joins : Joins (packetStep (joinerOf g (keptIn h line) gather) (receivedIn h line n)) gather message joined gather′ message′
   pub settles : Settles h n joined r
 
-pub record NoRoom (hub : Hub) (r : Answered) : Type 0 where
+pub record NoRoom (hub : Hub) (r : Taken) : Type 0 where
   pub is : r ≡ record { hub = hub; told = told.Refused refusal.Room; answer = 0 }
 
 pub record Cleared (hub : Hub) (e : Event) (r : Hub) : Type 0 where
@@ -213,20 +219,21 @@ pub record Steps (hub : Hub) (line gather message : List ℕ) (e : Event) (r : S
   pub gather-is : gather′ ≡ over (bytesOf (framed heardStep (stateOf hub line gather) e .next .core .gathered)) gather
   pub message-is : message′ ≡ over (messageOf (framed heardStep (stateOf hub line gather) e .told)) message
 
--- The answer to what is told, by its name.
+-- The bytes that answer what is told, by its name.
 abbrev pub nameBytes : Told → List ℕ
 nameBytes told.Nothing = []
 nameBytes told.Added = seal (replyBody host Ack)
 nameBytes told.Repeated = seal (replyBody host Ack)
 nameBytes (told.Message code count) = seal (replyBody host Ack)
-nameBytes (told.Refused r) = nakBytes (causeOf r)
+nameBytes (told.Refused r) = nakBytes host r
 
 -- So many bytes, and these at the front of the answer room.
 pub record Writes (bytes answer : List ℕ) (r : ℕ) (answer′ : List ℕ) : Type 0 where
   pub is : r ≡ length bytes
   pub answer-is : answer′ ≡ over bytes answer
 
--- Where the framer goes on, as `listen` promises, and nothing else changes; else nothing is done.
+-- Where the framer goes on, as `listen` promises, and nothing else changes; else nothing is done. A short way takes its event without a test
+-- for number 13: where it goes on it leaves what `hear` leaves with rooms of full size (`short-way-hears`), and whoever lends rooms tests them.
 pub data GoesOn (hub : Hub) (line : List ℕ) (e : Event) : Going → List ℕ → Type 0 where
   on : {halves : Halves} {g : Gathering} {line′ : List ℕ} → goesOn (hub .line) line e ≡ true → Listens (hub .line) line e (record { halves = halves; found = Nothing }) line′ →
       Gatherings (hub .gathering) g → GoesOn hub line e (On (record { line = halves; gathering = g })) line′

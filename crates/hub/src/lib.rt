@@ -1,11 +1,11 @@
-// The hub: decode data of a reader, joined to messages, one event at a time.
+// The hub (§8, §9): decode data of a reader, joined to messages, one event at a time.
 use framer::Event;
 use framer::Found;
-use framer::HALVES;
 use framer::Halves;
-use packet::Built;
+use framer::LINE_SIZE;
 use packet::DECODE_DATA;
 use packet::HOST;
+use packet::MESSAGE_SIZE;
 use packet::READER;
 use packet::Refusal;
 use packet::Reply;
@@ -14,17 +14,14 @@ ghost use mathlib.Core.Path.{_≡_};
 ghost use lib.ListN.{length, take};
 ghost use Rattle.packet.specs.Opcodes.{host};
 ghost use Rattle.packet.specs.Packet.{seal, dataIn, replyBody};
-ghost use Rattle.packet.specs.Refusals.{causeOf};
+ghost use Rattle.packet.specs.Refusals.{nakBytes};
+ghost use Rattle.packet.specs.Sizes.{headSize, bodySize, messageSize};
 ghost use Rattle.hub.specs.Joiner.{joinStep};
-ghost use Rattle.hub.specs.Hub.{nakBytes, decodeStep, packetStep};
-ghost use Rattle.hub.specs.Promises.{Closed, SwitchedOn, Hears, GoesOn, NoRoom, Cleared, nameBytes, Writes, Steps, Stays, Receives, Settles, Accepts, Sound, Gatherings, Within, Unchanged, Bars, OtherType, Joins, Adds, Keeps, HandsOut, joinerOf};
+ghost use Rattle.hub.specs.Hub.{decodeStep, packetStep};
+ghost use Rattle.hub.specs.Promises.{hubAnswerSize, Closed, SwitchedOn, Hears, GoesOn, NoRoom, Cleared, nameBytes, Writes, Steps, Stays, Receives, Settles, Accepts, Sound, Gatherings, Within, Unchanged, Bars, OtherType, Joins, Adds, Keeps, HandsOut, joinerOf};
 
-// The line buffer: two halves, one receives, the last accepted packet stays in the other.
-pub const LINE: usize = HALVES;
-// The longest message, in the gather buffer and in the message room.
-pub const MESSAGE: usize = 4096;
-// The longest answer, a NAK.
-pub const ANSWER: usize = 7;
+// What every event asks of the answer room.
+pub const HUB_ANSWER_SIZE: usize = packet::ANSWER_SIZE;
 
 // What is gathered of a message: whether one is begun, its code type, and how many bytes wait in the gather buffer.
 pub struct Gathering {
@@ -52,7 +49,8 @@ pub enum Told {
     Refused(Refusal),
 }
 
-pub struct Answered {
+// What became of an event.
+pub struct Taken {
     pub hub: Hub,
     pub told: Told,
     // so many bytes stand in the answer room
@@ -91,28 +89,28 @@ fn closed(barred: bool) -> Gathering
     }
 }
 
-// One event. Rooms: 7 bytes for answers, 4,096 for the message.
+// One event. With an answer room under HUB_ANSWER_SIZE or a message room under MESSAGE_SIZE it is not taken.
 pub fn hear(
     hub: Hub,
-    line: &mut [u8; LINE],
-    gather: &mut [u8; MESSAGE],
+    line: &mut [u8; LINE_SIZE],
+    gather: &mut [u8; MESSAGE_SIZE],
     answer: &mut [u8],
     message: &mut [u8],
     event: Event,
-) -> Answered
+) -> Taken
     ensures { λ r. ⌜ Hears hub (now (line .entry)) (now (gather .entry)) (now (answer .entry)) (now (message .entry)) event r (now (line .exit)) (now (gather .exit)) (now (answer .exit)) (now (message .exit)) ⌝ }
 {
-    if answer.len() < ANSWER {
+    if answer.len() < HUB_ANSWER_SIZE {
         return no_room(hub);
     }
-    if message.len() < MESSAGE {
+    if message.len() < MESSAGE_SIZE {
         return no_room(hub);
     }
     let stepped = step(hub, line, gather, message, event);
     let told = stepped.told;
     let count = reply(told, answer);
     let next = stepped.hub;
-    Answered {
+    Taken {
         hub: cleared(next, event),
         told,
         answer: count,
@@ -125,8 +123,9 @@ pub enum Going {
     Left,
 }
 
-// The short way of `hear`, for most bytes of a line. It needs no room and writes none.
-pub fn go_on(hub: Hub, line: &mut [u8; LINE], event: Event) -> Going
+// The short way of `hear`, for most bytes of a line. It is lent no rooms and has no test for number 13, so it stands for an event
+// with rooms of full size: whoever lends rooms tests them first.
+pub fn go_on(hub: Hub, line: &mut [u8; LINE_SIZE], event: Event) -> Going
     ensures { λ r. ⌜ GoesOn hub (now (line .entry)) event r (now (line .exit)) ⌝ }
 {
     match framer::go_on(hub.line, line, event) {
@@ -139,10 +138,10 @@ pub fn go_on(hub: Hub, line: &mut [u8; LINE], event: Event) -> Going
 }
 
 // The event is not taken.
-fn no_room(hub: Hub) -> Answered
+fn no_room(hub: Hub) -> Taken
     ensures { λ r. ⌜ NoRoom hub r ⌝ }
 {
-    Answered {
+    Taken {
         hub,
         told: Told::Refused(Refusal::Room),
         answer: 0,
@@ -162,48 +161,41 @@ fn cleared(hub: Hub, event: Event) -> Hub
 
 // ACK or NAK for what is told, and how many bytes it has.
 fn reply(told: Told, answer: &mut [u8]) -> usize
-    requires { ⌜ 7 ≤ length (now answer) ⌝ }
+    requires { ⌜ hubAnswerSize ≤ length (now answer) ⌝ }
     ensures { λ r. ⌜ Writes (nameBytes told) (now (answer .entry)) r (now (answer .exit)) ⌝ }
 {
     match told {
         Told::Nothing => 0,
-        Told::Added => say(Reply::Ack, answer),
-        Told::Repeated => say(Reply::Ack, answer),
-        Told::Message { code: _, count: _ } => say(Reply::Ack, answer),
+        Told::Added => acknowledge(answer),
+        Told::Repeated => acknowledge(answer),
+        Told::Message { code: _, count: _ } => acknowledge(answer),
         Told::Refused(refusal) => refuse(refusal, answer),
     }
 }
 
-fn refuse(refusal: Refusal, answer: &mut [u8]) -> usize
-    requires { ⌜ 7 ≤ length (now answer) ⌝ }
-    ensures { λ r. ⌜ Writes (nakBytes (causeOf refusal)) (now (answer .entry)) r (now (answer .exit)) ⌝ }
+fn acknowledge(answer: &mut [u8]) -> usize
+    requires { ⌜ hubAnswerSize ≤ length (now answer) ⌝ }
+    ensures { λ r. ⌜ Writes (seal (replyBody host Reply.Ack)) (now (answer .entry)) r (now (answer .exit)) ⌝ }
 {
-    let cause = packet::cause(refusal);
-    if cause == 0 {
-        return 0;
-    }
-    say(Reply::Nak(cause), answer)
+    packet::size_of(packet::answer(answer, HOST, Reply::Ack))
 }
 
-fn say(reply: Reply, answer: &mut [u8]) -> usize
-    requires { ⌜ 7 ≤ length (now answer) ⌝ }
-    ensures { λ r. ⌜ Writes (seal (replyBody host reply)) (now (answer .entry)) r (now (answer .exit)) ⌝ }
+fn refuse(refusal: Refusal, answer: &mut [u8]) -> usize
+    requires { ⌜ hubAnswerSize ≤ length (now answer) ⌝ }
+    ensures { λ r. ⌜ Writes (nakBytes host refusal) (now (answer .entry)) r (now (answer .exit)) ⌝ }
 {
-    match packet::answer(answer, HOST, reply) {
-        Built::Written(count) => count,
-        Built::Refused(_) => 0,
-    }
+    packet::size_of(packet::nak(answer, HOST, refusal))
 }
 
 // The framer takes the event; a packet goes on to the joining.
 fn step(
     hub: Hub,
-    line: &mut [u8; LINE],
+    line: &mut [u8; LINE_SIZE],
     gather: &mut [u8],
     message: &mut [u8],
     event: Event,
 ) -> Stepped
-    requires { ⌜ (length (now gather) ≡ 4096) × (4096 ≤ length (now message)) ⌝ }
+    requires { ⌜ (length (now gather) ≡ messageSize) × (messageSize ≤ length (now message)) ⌝ }
     ensures { λ r. ⌜ Steps hub (now (line .entry)) (now (gather .entry)) (now (message .entry)) event r (now (line .exit)) (now (gather .exit)) (now (message .exit)) ⌝ }
 {
     let listened = framer::listen(hub.line, line, event);
@@ -235,11 +227,11 @@ fn received(
     halves: Halves,
     gathering: Gathering,
     n: usize,
-    line: &[u8; LINE],
+    line: &[u8; LINE_SIZE],
     gather: &mut [u8],
     message: &mut [u8],
 ) -> Stepped
-    requires { ⌜ Sound gathering × (length (now gather) ≡ 4096) × (4096 ≤ length (now message)) × (4 ≤ n) × (n ≤ 255) ⌝ }
+    requires { ⌜ Sound gathering × (length (now gather) ≡ messageSize) × (messageSize ≤ length (now message)) × (headSize ≤ n) × (n ≤ bodySize) ⌝ }
     ensures { λ r. ⌜ Receives halves gathering n (now (line .entry)) (now (gather .entry)) (now (message .entry)) r (now (gather .exit)) (now (message .exit)) ⌝ }
 {
     let body = framer::received(halves, line, n);
@@ -290,7 +282,7 @@ fn sound(gathering: Gathering) -> Gathering
 fn within(count: usize) -> usize
     ensures { λ r. ⌜ Within count r ⌝ }
 {
-    if count <= MESSAGE {
+    if count <= MESSAGE_SIZE {
         return count;
     }
     0
@@ -304,7 +296,7 @@ fn judge(
     gather: &mut [u8],
     message: &mut [u8],
 ) -> Joined
-    requires { ⌜ Sound gathering × (length (now gather) ≡ 4096) × (4096 ≤ length (now message)) × (4 ≤ length (now body)) ⌝ }
+    requires { ⌜ Sound gathering × (length (now gather) ≡ messageSize) × (messageSize ≤ length (now message)) × (headSize ≤ length (now body)) ⌝ }
     ensures { λ r. ⌜ Joins (packetStep (joinerOf gathering (now (last .entry)) (now (gather .entry))) (now (body .entry))) (now (gather .entry)) (now (message .entry)) r (now (gather .exit)) (now (message .exit)) ⌝ }
 {
     let opcode = body[1];
@@ -338,7 +330,7 @@ fn decode(
     gather: &mut [u8],
     message: &mut [u8],
 ) -> Joined
-    requires { ⌜ Sound gathering × (length (now gather) ≡ 4096) × (4096 ≤ length (now message)) × (4 ≤ length (now body)) ⌝ }
+    requires { ⌜ Sound gathering × (length (now gather) ≡ messageSize) × (messageSize ≤ length (now message)) × (headSize ≤ length (now body)) ⌝ }
     ensures { λ r. ⌜ Joins (decodeStep (joinerOf gathering (now (last .entry)) (now (gather .entry))) (now (body .entry))) (now (gather .entry)) (now (message .entry)) r (now (gather .exit)) (now (message .exit)) ⌝ }
 {
     let data = packet::data_part(body);
@@ -357,7 +349,7 @@ fn join(
     gather: &mut [u8],
     message: &mut [u8],
 ) -> Joined
-    requires { ⌜ Sound gathering × (length (now gather) ≡ 4096) × (4096 ≤ length (now message)) × (4 ≤ length (now body)) × (now «data» ≡ dataIn (now body)) × (1 ≤ length (now «data»)) ⌝ }
+    requires { ⌜ Sound gathering × (length (now gather) ≡ messageSize) × (messageSize ≤ length (now message)) × (headSize ≤ length (now body)) × (now «data» ≡ dataIn (now body)) × (1 ≤ length (now «data»)) ⌝ }
     ensures { λ r. ⌜ Joins (joinStep (joinerOf gathering (now (last .entry)) (now (gather .entry))) (now (body .entry))) (now (gather .entry)) (now (message .entry)) r (now (gather .exit)) (now (message .exit)) ⌝ }
 {
     if gathering.barred {
@@ -386,7 +378,7 @@ fn add(
     gather: &mut [u8],
     message: &mut [u8],
 ) -> Joined
-    requires { ⌜ Sound gathering × (length (now gather) ≡ 4096) × (4096 ≤ length (now message)) × (4 ≤ length (now body)) × (now «data» ≡ dataIn (now body)) × (1 ≤ length (now «data»)) ⌝ }
+    requires { ⌜ Sound gathering × (length (now gather) ≡ messageSize) × (messageSize ≤ length (now message)) × (headSize ≤ length (now body)) × (now «data» ≡ dataIn (now body)) × (1 ≤ length (now «data»)) ⌝ }
     ensures { λ r. ⌜ Adds gathering (now (body .entry)) (now (gather .entry)) (now (message .entry)) r (now (gather .exit)) (now (message .exit)) ⌝ }
 {
     let code = data[0];
@@ -394,7 +386,7 @@ fn add(
     if other_type(gathering, code) {
         return bar();
     }
-    if MESSAGE - at < data.len() - 1 {
+    if MESSAGE_SIZE - at < data.len() - 1 {
         return bar();
     }
     if body[3] / 2 % 2 == 0 {

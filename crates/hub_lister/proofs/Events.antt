@@ -1,21 +1,30 @@
 -- An event and its lines, from what the hub's call promises; then one character. Assumes nothing.
 use Prim.Native.Nat.{ℕ, _≤_}
-use mathlib.Core.Path.{_≡_, refl, ap, _∙_}
+use mathlib.Core.Path.{_≡_, refl, sym, ap, _∙_}
 use mathlib.Core.Bool.{false}
-use mathlib.Core.List.{List, [], _∷_, _++_, append-assoc}
+use mathlib.Core.List.{List, [], _∷_, _++_, flatMap, append-assoc, append-nil}
 use native.Mathlib.Omega.{arith}
 use lib.ListN.{length, take, drop}
 use lib.Seq.{take-append-seam, drop-at, length-take-le}
 use borrow.Author.Tests.{le-ltb}
 use Rattle.words.specs.Lists.{over}
+use Rattle.words.specs.Machine.{Done, given}
 use Rattle.words.proofs.Lists.{take-over}
+use Rattle.packet.specs.Opcodes.{host}
+use Rattle.packet.specs.Packet.{seal, replyBody}
+use Rattle.packet.specs.Refusals.{nakBytes}
+use Rattle.packet.specs.Sizes.{messageSize}
+use Rattle.packet.specs.declared.Refusal.the-variants.{Barred}
+use Rattle.packet.specs.declared.Reply.the-variants.{Ack}
+use Rattle.framer.specs.Behind.{framed}
 use Rattle.framer.specs.declared.Event.{Event}
 use Rattle.framer.specs.declared.Event.the-variants as event
-use Rattle.hub.specs.Joiner.{Output, added, repeated, handed, refused}
-use Rattle.hub.specs.Hub.{hubStep, messageBytes}
-use Rattle.hub.specs.Promises.{nameOf, toldOf, answerOf, messageOf, stateOf, tooSmall, Hears}
+use Rattle.hub.specs.Joiner.{Joiner, Output, added, repeated, handed, refused, answered, bytesOf, pieceIn, barring}
+use Rattle.hub.specs.Hub.{HubState, hubStep}
+use Rattle.hub.specs.Promises.{toldOf, answerOf, messageOf, stateOf, hubAnswerSize, tooSmall, Hears}
 use Rattle.hub.specs.declared.Hub.{Hub}
-use Rattle.hub.specs.declared.Answered.{Answered}
+use Rattle.hub.specs.declared.Taken.{Taken as HubTaken}
+use Rattle.hub.proofs.Outcomes.{Outcome, nothing, plain, bars, again, more, whole, event-happens}
 use Rattle.listing.specs.Lines.{lineOf, answerLine}
 use Rattle.listing.specs.Listing.{skips, goes}
 use Rattle.listing.specs.Promises.{Takes}
@@ -25,7 +34,7 @@ use Rattle.listing.specs.declared.Taken.{Taken}
 use Rattle.listing.proofs.Rooms.{most-over, writes-nothing}
 use Rattle.hub_lister.specs.declared.Lister.{Lister}
 use Rattle.hub_lister.specs.declared.Step.{Step}
-use Rattle.hub_lister.specs.Listing.{messageLine, happens, acts}
+use Rattle.hub_lister.specs.Listing.{outputLine, happens, acts}
 use Rattle.hub_lister.specs.Promises.{countOf, toldLine, Skips, Stops, Happens, Characters, PutsLines}
 
 -- ---- rooms
@@ -41,34 +50,46 @@ behind-first m part rest h = drop-at (take 1 m) (part ++ rest) 1 (length-take-le
 -- ---- what is told, by its name
 
 count-told : (told : List Output) → countOf (toldOf told) ≤ length (messageOf told)
-unfolding toldOf nameOf messageOf messageBytes
+unfolding toldOf messageOf
 count-told [] = omega arith
 count-told (added ∷ xs) = omega arith
 count-told (repeated ∷ xs) = omega arith
 count-told (handed code bytes ∷ xs) = omega arith
 count-told (refused r ∷ xs) = omega arith
+count-told (answered bytes ∷ xs) = count-told xs
 
-line-told : (told : List Output) (part rest m : List ℕ) → drop 1 m ≡ over (messageOf told) part ++ rest → toldLine (toldOf told) m ≡ messageLine told
-unfolding toldLine toldOf nameOf messageOf messageBytes messageLine
-line-told [] part rest m e = refl
-line-told (added ∷ xs) part rest m e = refl
-line-told (repeated ∷ xs) part rest m e = refl
-line-told (handed code bytes ∷ xs) part rest m e = ap (λ (s : List ℕ). lineOf 77 (code ∷ s)) (ap (λ (s : List ℕ). take (length bytes) s) e ∙ front-over bytes part rest)
-line-told (refused r ∷ xs) part rest m e = refl
+given-lines : (b : List ℕ) → answerLine (answerOf (given answered b)) ≡ flatMap outputLine (given answered b)
+unfolding given answerOf flatMap outputLine answerLine
+given-lines [] = refl
+given-lines (x ∷ xs) = sym (append-nil (answerLine (x ∷ xs)))
+
+-- The lines of an outcome: the message that stands in m from its second byte on, then the answer.
+lines-told : {least : ℕ} {j : Joiner} {body : List ℕ} {d : Done Joiner Output} (part rest m : List ℕ) → Outcome least j body d → drop 1 m ≡ over (messageOf (d .told)) part ++ rest →
+    toldLine (toldOf (d .told)) m ++ answerLine (answerOf (d .told)) ≡ flatMap outputLine (d .told)
+unfolding barring toldLine toldOf answerOf messageOf flatMap outputLine answerLine
+lines-told part rest m nothing e = refl
+lines-told part rest m (plain {x = x} l n c) e = given-lines (nakBytes host x)
+lines-told part rest m (bars l) e = given-lines (nakBytes host Barred)
+lines-told part rest m (again b) e = sym (append-nil (answerLine (seal (replyBody host Ack))))
+lines-told part rest m (more b n) e = sym (append-nil (answerLine (seal (replyBody host Ack))))
+lines-told {j = j} {body} part rest m (whole b n) e =
+    let bytes : List ℕ = bytesOf (j .gathered) ++ pieceIn body in
+    let there : take (length bytes) (drop 1 m) ≡ bytes = ap (λ (s : List ℕ). take (length bytes) s) e ∙ front-over bytes part rest in
+    rw (there, append-nil (answerLine (seal (replyBody host Ack)))) refl
 
 -- ---- what the hub's call promises where both rooms have their size
 
-module _ {hub : Hub} {line gather answer part : List ℕ} {e : Event} {a : Answered} {line′ gather′ answer′ part′ : List ℕ}
-    (h : Hears hub line gather answer part e a line′ gather′ answer′ part′) (seven : length answer ≡ 7) (size : 4096 ≤ length part) where
+module _ {hub : Hub} {line gather answer part : List ℕ} {e : Event} {a : HubTaken} {line′ gather′ answer′ part′ : List ℕ}
+    (h : Hears hub line gather answer part e a line′ gather′ answer′ part′) (small : length answer ≡ hubAnswerSize) (size : messageSize ≤ length part) where
   enough : tooSmall answer part ≡ false
   unfolding tooSmall
-  enough = simp (le-ltb (length answer) 7 (omega arith), le-ltb (length part) 4096 size)
+  enough = simp (le-ltb (length answer) hubAnswerSize (omega arith), le-ltb (length part) messageSize size)
 
   heard-told : a .told ≡ toldOf (hubStep (stateOf hub line gather) e .told)
-  heard-told = simp enough at (ap (λ (r : Answered). r .told) (h .is))
+  heard-told = simp enough at (ap (λ (r : HubTaken). r .told) (h .is))
 
   heard-count : a .answer ≡ length (answerOf (hubStep (stateOf hub line gather) e .told))
-  heard-count = simp enough at (ap (λ (r : Answered). r .answer) (h .is))
+  heard-count = simp enough at (ap (λ (r : HubTaken). r .answer) (h .is))
 
   heard-next : stateOf (a .hub) line′ gather′ ≡ hubStep (stateOf hub line gather) e .next
   heard-next = simp enough at (h .next)
@@ -91,14 +112,14 @@ module _ {hub : Hub} {line gather answer part : List ℕ} {e : Event} {a : Answe
   -- The message stands in m from its second byte on.
   pub happened : (rest : List ℕ) {m room room′ : List ℕ} {at place : ℕ} → drop 1 m ≡ part′ ++ rest → PutsLines (a .told) (a .answer) answer′ m room at place room′ →
       Happens hub line gather e room at (record { lister = record { hub = a .hub; waiting = No; ended = false }; place = place }) line′ gather′ room′
-  unfolding happens goes
+  unfolding happens goes hubStep framed
   happened rest {m} d k =
-      let os : List Output = hubStep (stateOf hub line gather) e .told in
-      let first : toldLine (a .told) m ≡ messageLine os = rw heard-told (line-told os part rest m (d ∙ rw heard-message refl)) in
-      let second : answerLine (take (a .answer) answer′) ≡ answerLine (answerOf os) = rw heard-answer (ap answerLine (take-over (answerOf os) answer (a .answer) heard-count)) in
-      record {
-        steps = record { next = rw heard-next refl; writes = rw (first, second) at (k .writes) };
-      }
+      let s : HubState = stateOf hub line gather in
+      let os : List Output = hubStep s e .told in
+      let answer-is : take (a .answer) answer′ ≡ answerOf os = rw heard-answer (take-over (answerOf os) answer (a .answer) heard-count) in
+      let lines : toldLine (a .told) m ++ answerLine (take (a .answer) answer′) ≡ flatMap outputLine os =
+      rw (heard-told, answer-is) (lines-told part rest m (event-happens s e .outcome) (d ∙ rw heard-message refl)) in
+      record { steps = record { next = rw heard-next refl; writes = rw lines at (k .writes) } }
 
 -- ---- a character, by its token
 

@@ -1,19 +1,19 @@
--- However a text is cut, what is written for it is the listing of the whole; and document 01's example. Assumes nothing.
+-- However a text is cut, what is written for it is the listing of the whole; and §16's example. Assumes nothing.
 use Prim.Native.Nat.{ℕ, _≤_}
 use mathlib.Core.Path.{_≡_, refl}
 use mathlib.Core.Bool.{true, false}
-use mathlib.Core.List.{List, [], _∷_, _++_}
+use mathlib.Core.List.{List, [], _∷_, _++_, flatMap}
 use lib.ListN.{length, take}
 use Rattle.words.specs.Lists.{sameBytes}
-use Rattle.words.specs.Machine.{after, through}
+use Rattle.words.specs.Machine.{after, through, given}
 use Rattle.packet.specs.Packet.{bodyIn, bodyOf, checkOf, checksumIn, checksumOf, dataIn, headIn, isAnswer, replyBody, replyData, replyOpcode, resentEqual, seal, statusAllowed, sumOf, unmarked}
 use Rattle.framer.specs.Framer.{atByte, atGap, framerStep, judged}
 use Rattle.framer.specs.Behind.{framed}
 use Rattle.framer.specs.Halves.{lineIn, keptIn, lastOf}
 use Rattle.framer.specs.Promises.{lineOf as lineHeard, begunOf}
 use Rattle.hub.specs.Joiner.{adding, barring, bytesOf, joinStep, joined, otherType, pieceIn, typeIn}
-use Rattle.hub.specs.Hub.{answerBytes, cleared, decodeStep, heardStep, hubStep, nakBytes, packetStep}
-use Rattle.hub.specs.Promises.{stateOf, joinerOf, soundOf, gatheredOf, answerOf}
+use Rattle.hub.specs.Hub.{cleared, decodeStep, heardStep, hubStep, packetStep}
+use Rattle.hub.specs.Promises.{stateOf, joinerOf, soundOf, gatheredOf}
 use Rattle.listing.specs.Lines.{answerLine, capitalOf, errorLine, hexByte, hexBytes, lineOf}
 use Rattle.listing.specs.Listing.{goes, lastLine, listStep, loneLine, skips, stops}
 use Rattle.listing.specs.Listing as listing
@@ -22,13 +22,13 @@ use Rattle.listing.proofs.Sessions.{ran-none, ran-more}
 use Rattle.listing.proofs.Sessions as session
 use Rattle.hub_lister.specs.declared.Lister.{Lister}
 use Rattle.hub_lister.specs.declared.Listed.{Listed}
-use Rattle.hub_lister.specs.Listing.{acts, happens, listingOf, messageLine}
-use Rattle.hub_lister.specs.Promises.{most, Starts, Listens, Finishes, Ran}
+use Rattle.hub_lister.specs.Listing.{acts, happens, listingOf, outputLine}
+use Rattle.hub_lister.specs.Promises.{linesSize, Starts, Listens, Finishes, Ran}
 
--- ---- document 01's example, by computation
+-- ---- §16's example, by computation
 
 by-computation : ℕ
-unfolding through after sameBytes bodyIn bodyOf checkOf checksumIn checksumOf dataIn headIn isAnswer replyBody replyData replyOpcode resentEqual seal statusAllowed sumOf unmarked atByte atGap framerStep judged framed adding barring bytesOf joinStep joined otherType pieceIn typeIn answerBytes cleared decodeStep heardStep hubStep nakBytes packetStep answerOf capitalOf hexByte hexBytes lineOf byteOf digitOf firstOf isBlank secondOf signOf takeOf acts answerLine errorLine goes happens lastLine listStep listing.listingOf listingOf loneLine messageLine skips stops
+unfolding through after given flatMap sameBytes bodyIn bodyOf checkOf checksumIn checksumOf dataIn headIn isAnswer replyBody replyData replyOpcode resentEqual seal statusAllowed sumOf unmarked atByte atGap framerStep judged framed adding barring bytesOf joinStep joined otherType pieceIn typeIn cleared decodeStep heardStep hubStep packetStep capitalOf hexByte hexBytes lineOf byteOf digitOf firstOf isBlank secondOf signOf takeOf acts answerLine errorLine goes happens lastLine listStep listing.listingOf listingOf loneLine outputLine skips stops
 by-computation = 0
 
 -- `06 F3 00 00 1B 38 FE B4 . 06 F3 00 01 1B 38 FE B3 .`
@@ -61,7 +61,7 @@ continues k h = record { ran = ran-more (k .ran) (h .hears) }
 
 -- A call with room for the lines of one character takes one.
 pub takes-one : {l : Lister} {line gather text room : List ℕ} {r : Listed} {line′ gather′ room′ : List ℕ} → Listens l line gather text room r line′ gather′ room′ → l .ended ≡ false →
-    most ≤ length room → 1 ≤ length text → 1 ≤ r .taken
+    linesSize ≤ length room → 1 ≤ length text → 1 ≤ r .taken
 takes-one k e h t = session.one-taken (k .hears) e h t
 
 -- However a text is cut, what is written for it is the listing of the whole: where the input ends, and where `E` ends it.

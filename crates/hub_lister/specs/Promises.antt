@@ -1,12 +1,13 @@
 -- What the calls of the hub listing promise: how many characters are taken, the state, and every byte of the room for lines.
-use Prim.Native.Nat.{ℕ}
+use Prim.Native.Nat.{ℕ, _+_, _*_}
 use mathlib.Core.Bool.{false}
 use mathlib.Core.List.{List, [], _∷_, _++_}
 use mathlib.Core.Path.{_≡_}
 use lib.ListN.{take, drop}
+use Rattle.packet.specs.Sizes.{messageSize}
 use Rattle.framer.specs.declared.Event.{Event}
 use Rattle.hub.specs.Hub.{HubState, switchedOn}
-use Rattle.hub.specs.Promises.{stateOf, offControl}
+use Rattle.hub.specs.Promises.{stateOf, onControl, hubAnswerSize}
 use Rattle.hub.specs.declared.Hub.{Hub}
 use Rattle.hub.specs.declared.Told.{Told}
 use Rattle.hub.specs.declared.Told.the-variants as told
@@ -27,22 +28,32 @@ use Rattle.hub_lister.specs.declared.Step.{Step}
 abbrev pub readingOf : Lister → List ℕ → List ℕ → Reading HubState
 readingOf l line gather = record { machine = stateOf (l .hub) line gather; waiting = l .waiting; ended = l .ended }
 
--- The most that the lines of one character can have.
-abbrev pub most : ℕ
-most = 12316
+-- A message with its code type in front of it.
+abbrev pub codedSize : ℕ
+codedSize = messageSize + 1
+
+-- A line is a letter, three characters for each byte, and a line feed. One character brings a message and an answer at most.
+abbrev pub messageLineSize : ℕ
+messageLineSize = 3 * codedSize + 2
+
+abbrev pub answerLineSize : ℕ
+answerLineSize = 3 * hubAnswerSize + 2
+
+abbrev pub linesSize : ℕ
+linesSize = messageLineSize + answerLineSize
 
 pub record Starts (r : Lister) : Type 0 where
-  pub is : r ≡ record { hub = offControl; waiting = No; ended = false }
+  pub is : r ≡ record { hub = onControl; waiting = No; ended = false }
 
 pub record Listens (l : Lister) (line gather text room : List ℕ) (r : Listed) (line′ gather′ room′ : List ℕ) : Type 0 where
-  pub hears : session.Hears acts most (readingOf l line gather) text room (r .taken) (r .count) (readingOf (r .lister) line′ gather′) room′
+  pub hears : session.Hears acts linesSize (readingOf l line gather) text room (r .taken) (r .count) (readingOf (r .lister) line′ gather′) room′
 
 pub record Finishes (l : Lister) (room : List ℕ) (r : ℕ) (room′ : List ℕ) : Type 0 where
   pub finishes : listing.Finishes (l .ended) (l .waiting) room r room′
 
 -- A listing that stands where some session has left it.
 pub record Ran (l : Lister) (line gather : List ℕ) : Type 0 where
-  pub ran : session.Ran acts most switchedOn (readingOf l line gather)
+  pub ran : session.Ran acts linesSize switchedOn (readingOf l line gather)
 
 -- ---- the functions inside
 

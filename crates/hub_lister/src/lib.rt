@@ -1,23 +1,28 @@
-// The hub listing: characters of a line in, the lines of what the hub does out; document 01, 'Hub listing'.
+// The hub listing (§16): characters of a line in, the lines of what the hub does out.
 // Here it works on lent text and lent rooms; `stream` reads and writes.
 mod stream;
 
 use framer::Event;
+pub use framer::LINE_SIZE;
+use hub::HUB_ANSWER_SIZE;
 use hub::Hub;
-use hub::LINE;
-use hub::MESSAGE;
 use hub::Told;
 use listing::Digit;
 use listing::Taken;
 use listing::Token;
+pub use packet::MESSAGE_SIZE;
 pub use stream::run;
 ghost use Prim.Native.Nat.{_+_, _≤_};
 ghost use mathlib.Core.Path.{_≡_};
 ghost use lib.ListN.{length};
-ghost use Rattle.hub_lister.specs.Promises.{Starts, Listens, Finishes, Characters, Skips, Stops, Happens, PutsLines, MessageLine, PutsMessage, countOf};
+ghost use Rattle.packet.specs.Sizes.{messageSize};
+ghost use Rattle.hub.specs.Promises.{hubAnswerSize};
+ghost use Rattle.hub_lister.specs.Promises.{codedSize, messageLineSize, linesSize, Starts, Listens, Finishes, Characters, Skips, Stops, Happens, PutsLines, MessageLine, PutsMessage, countOf};
 
-// Room for the lines of one character: a message of 4,096 bytes with its code type has 12,293, an answer of 7 has 23.
-pub const LINES: usize = 12316;
+// A message with its code type in front of it.
+const CODED_SIZE: usize = MESSAGE_SIZE + 1;
+// Room for the lines of one character, a message and an answer: each a letter, three characters for each byte, and a line feed.
+pub const LINES_SIZE: usize = (3 * CODED_SIZE + 2) + (3 * HUB_ANSWER_SIZE + 2);
 
 // Where a listing stands: the hub, the first digit that waits for its second, and whether it has ended with `E`.
 pub struct Lister {
@@ -51,15 +56,15 @@ pub fn start() -> Lister
 // Characters from the front of the text, as long as the room can hold what one more may bring, and the lines due for them.
 pub fn hear(
     lister: Lister,
-    line: &mut [u8; LINE],
-    gather: &mut [u8; MESSAGE],
+    line: &mut [u8; LINE_SIZE],
+    gather: &mut [u8; MESSAGE_SIZE],
     text: &[u8],
     room: &mut [u8],
 ) -> Listed
     ensures { λ r. ⌜ Listens lister (now (line .entry)) (now (gather .entry)) (now (text .entry)) (now (room .entry)) r (now (line .exit)) (now (gather .exit)) (now (room .exit)) ⌝ }
 {
-    let mut answer = [0u8; 7];
-    let mut message = [0u8; 4097];
+    let mut answer = [0u8; HUB_ANSWER_SIZE];
+    let mut message = [0u8; CODED_SIZE];
     hear_all(lister, line, gather, &mut answer, &mut message, text, room)
 }
 
@@ -73,20 +78,20 @@ pub fn finish(lister: Lister, room: &mut [u8]) -> usize
 
 fn hear_all(
     lister: Lister,
-    line: &mut [u8; LINE],
-    gather: &mut [u8; MESSAGE],
+    line: &mut [u8; LINE_SIZE],
+    gather: &mut [u8; MESSAGE_SIZE],
     answer: &mut [u8],
     message: &mut [u8],
     text: &[u8],
     room: &mut [u8],
 ) -> Listed
-    requires { ⌜ (length (now answer) ≡ 7) × (length (now message) ≡ 4097) ⌝ }
+    requires { ⌜ (length (now answer) ≡ hubAnswerSize) × (length (now message) ≡ codedSize) ⌝ }
     ensures { λ r. ⌜ Listens lister (now (line .entry)) (now (gather .entry)) (now (text .entry)) (now (room .entry)) r (now (line .exit)) (now (gather .exit)) (now (room .exit)) ⌝ }
 {
     let mut present = lister;
     let mut i = 0;
     let mut at = 0;
-    while i < text.len() && listing::goes_on(present.ended, LINES, room.len() - at) {
+    while i < text.len() && listing::goes_on(present.ended, LINES_SIZE, room.len() - at) {
         let step = character(present, line, gather, answer, message, text[i], room, at);
         present = step.lister;
         at = step.place;
@@ -102,15 +107,15 @@ fn hear_all(
 // One character, and the lines due for it.
 fn character(
     lister: Lister,
-    line: &mut [u8; LINE],
-    gather: &mut [u8; MESSAGE],
+    line: &mut [u8; LINE_SIZE],
+    gather: &mut [u8; MESSAGE_SIZE],
     answer: &mut [u8],
     message: &mut [u8],
     character: u8,
     room: &mut [u8],
     at: usize,
 ) -> Step
-    requires { ⌜ (length (now answer) ≡ 7) × (length (now message) ≡ 4097) × (at + 12316 ≤ length (now room)) ⌝ }
+    requires { ⌜ (length (now answer) ≡ hubAnswerSize) × (length (now message) ≡ codedSize) × (at + linesSize ≤ length (now room)) ⌝ }
     ensures { λ r. ⌜ Characters lister (now (line .entry)) (now (gather .entry)) character (now (room .entry)) at r (now (line .exit)) (now (gather .exit)) (now (room .exit)) ⌝ }
 {
     let hub = lister.hub;
@@ -162,7 +167,7 @@ fn skip(hub: Hub, taken: Taken, at: usize) -> Step
 
 // What is wrong ends the listing.
 fn stop(hub: Hub, room: &mut [u8], at: usize) -> Step
-    requires { ⌜ at + 12316 ≤ length (now room) ⌝ }
+    requires { ⌜ at + linesSize ≤ length (now room) ⌝ }
     ensures { λ r. ⌜ Stops hub (now (room .entry)) at r (now (room .exit)) ⌝ }
 {
     Step {
@@ -178,21 +183,21 @@ fn stop(hub: Hub, room: &mut [u8], at: usize) -> Step
 // An event, and its lines. The message room starts behind a place for the code type.
 fn happen(
     hub: Hub,
-    line: &mut [u8; LINE],
-    gather: &mut [u8; MESSAGE],
+    line: &mut [u8; LINE_SIZE],
+    gather: &mut [u8; MESSAGE_SIZE],
     answer: &mut [u8],
     message: &mut [u8],
     event: Event,
     room: &mut [u8],
     at: usize,
 ) -> Step
-    requires { ⌜ (length (now answer) ≡ 7) × (length (now message) ≡ 4097) × (at + 12316 ≤ length (now room)) ⌝ }
+    requires { ⌜ (length (now answer) ≡ hubAnswerSize) × (length (now message) ≡ codedSize) × (at + linesSize ≤ length (now room)) ⌝ }
     ensures { λ r. ⌜ Happens hub (now (line .entry)) (now (gather .entry)) event (now (room .entry)) at r (now (line .exit)) (now (gather .exit)) (now (room .exit)) ⌝ }
 {
-    let answered = hub::hear(hub, line, gather, answer, &mut message[1..], event);
-    let told = answered.told;
-    let place = put_lines(told, answered.answer, answer, message, room, at);
-    let next = answered.hub;
+    let taken = hub::hear(hub, line, gather, answer, &mut message[1..], event);
+    let told = taken.told;
+    let place = put_lines(told, taken.answer, answer, message, room, at);
+    let next = taken.hub;
     Step {
         lister: Lister {
             hub: next,
@@ -212,7 +217,7 @@ fn put_lines(
     room: &mut [u8],
     at: usize,
 ) -> usize
-    requires { ⌜ (length (now answer) ≡ 7) × (count ≤ 7) × (length (now message) ≡ 4097) × (countOf told ≤ 4096) × (at + 12316 ≤ length (now room)) ⌝ }
+    requires { ⌜ (length (now answer) ≡ hubAnswerSize) × (count ≤ hubAnswerSize) × (length (now message) ≡ codedSize) × (countOf told ≤ messageSize) × (at + linesSize ≤ length (now room)) ⌝ }
     ensures { λ r. ⌜ PutsLines told count (now (answer .entry)) (now (message .entry)) (now (room .entry)) at r (now (room .exit)) ⌝ }
 {
     let behind = message_line(told, message, room, at);
@@ -220,7 +225,7 @@ fn put_lines(
 }
 
 fn message_line(told: Told, message: &mut [u8], room: &mut [u8], at: usize) -> usize
-    requires { ⌜ (length (now message) ≡ 4097) × (countOf told ≤ 4096) × (at + 12293 ≤ length (now room)) ⌝ }
+    requires { ⌜ (length (now message) ≡ codedSize) × (countOf told ≤ messageSize) × (at + messageLineSize ≤ length (now room)) ⌝ }
     ensures { λ r. ⌜ MessageLine told (now (message .entry)) (now (room .entry)) at r (now (room .exit)) ⌝ }
 {
     match told {
@@ -234,7 +239,7 @@ fn message_line(told: Told, message: &mut [u8], room: &mut [u8], at: usize) -> u
 
 // The code type goes in front of the message, so that both are one run of bytes.
 fn put_message(code: u8, count: usize, message: &mut [u8], room: &mut [u8], at: usize) -> usize
-    requires { ⌜ (length (now message) ≡ 4097) × (count ≤ 4096) × (at + 12293 ≤ length (now room)) ⌝ }
+    requires { ⌜ (length (now message) ≡ codedSize) × (count ≤ messageSize) × (at + messageLineSize ≤ length (now room)) ⌝ }
     ensures { λ r. ⌜ PutsMessage code count (now (message .entry)) (now (room .entry)) at r (now (room .exit)) ⌝ }
 {
     message[0] = code;

@@ -1,4 +1,4 @@
--- The lines of a listing: a capital letter, the bytes, each two capital hex digits after a space, a line feed.
+-- §16, the lines of a listing: a capital letter, the bytes, each two capital hex digits after a space, a line feed.
 use Prim.Native.Nat.{ℕ, _+_, _/_, _%_}
 use mathlib.Core.List.{List, [], _∷_, _++_}
 use lib.Dec.{ltb, leb}

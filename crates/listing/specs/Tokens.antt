@@ -1,4 +1,4 @@
--- The notation that the listings share: two hex digits of either case are a byte, `.` and `/` are gaps, blanks are skipped.
+-- §16, the notation that the listings share: two hex digits of either case are a byte, `.` and `/` are gaps, blanks are skipped.
 use Prim.Native.Nat.{ℕ, _+_, _*_, _-_, _%_}
 use mathlib.Core.Bool.{Bool}
 use lib.Dec.{ltb, leb, eqb}

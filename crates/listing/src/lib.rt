@@ -1,4 +1,4 @@
-// The text that the listings share: characters read as tokens, and lines of bytes put into a lent room.
+// The text that the listings share (§16): characters read as tokens, and lines of bytes put into a lent room.
 // Any value is taken; a line that the room does not hold whole from its place on is not put at all.
 ghost use Prim.Native.Nat.{_+_, _*_, _<_, _≤_};
 ghost use lib.ListN.{length};

@@ -9,7 +9,7 @@ use Rattle.packet.specs.declared.Checked.{Checked}
 use Rattle.packet.specs.declared.Built.{Built}
 use Rattle.packet.specs.declared.Reply.{Reply}
 use Rattle.packet.specs.Packet.{written}
-use Rattle.packet.specs.Promises.{Number, Cause, Check, DataPart, Allowed, AllowedSource, Build, Fill, Answer, Equal, Resent, IsAnswer}
+use Rattle.packet.specs.Promises.{Number, Cause, Check, DataPart, Allowed, AllowedSource, SizeOf, Build, Fill, Answer, Naks, Equal, Resent, IsAnswer}
 
 pub number-unique : {x : Refusal} {r r′ : ℕ} → Number x r → Number x r′ → r ≡ r′
 number-unique p q = p .is ∙ sym (q .is)
@@ -38,7 +38,10 @@ resent-equal-unique p q = p .is ∙ sym (q .is)
 pub is-answer-unique : {o : ℕ} {r r′ : Bool} → IsAnswer o r → IsAnswer o r′ → r ≡ r′
 is-answer-unique p q = p .is ∙ sym (q .is)
 
--- What is written follows from the answer, for the three calls that write.
+pub size-of-unique : {b : Built} {r r′ : ℕ} → SizeOf b r → SizeOf b r′ → r ≡ r′
+size-of-unique p q = p .is ∙ sym (q .is)
+
+-- What is written follows from the answer, for the calls that write.
 written-unique : {r r′ : Built} {room₁ room₂ : List ℕ} (room packet : List ℕ) → r ≡ r′ → room₁ ≡ over (written r packet) room → room₂ ≡ over (written r′ packet) room → room₁ ≡ room₂
 written-unique room packet e p q = p ∙ (ap (λ (r : Built). over (written r packet) room) e ∙ sym q)
 
@@ -50,3 +53,6 @@ fill-unique {room} p q = let e = p .is ∙ sym (q .is) in (e, written-unique roo
 
 pub answer-unique : {room room₁ room₂ : List ℕ} {s : ℕ} {y : Reply} {r r′ : Built} → Answer room s y r room₁ → Answer room s y r′ room₂ → (r ≡ r′) × (room₁ ≡ room₂)
 answer-unique {room} p q = let e = p .is ∙ sym (q .is) in (e, written-unique room _ e (p .room-is) (q .room-is))
+
+pub nak-unique : {room room₁ room₂ : List ℕ} {s : ℕ} {x : Refusal} {r r′ : Built} → Naks room s x r room₁ → Naks room s x r′ room₂ → (r ≡ r′) × (room₁ ≡ room₂)
+nak-unique {room} p q = let e = p .is ∙ sym (q .is) in (e, written-unique room _ e (p .room-is) (q .room-is))

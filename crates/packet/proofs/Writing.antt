@@ -7,14 +7,16 @@ use native.Mathlib.Numerals.{add-one}
 use native.Mathlib.Omega.{arith}
 use lib.ListN.{length, take, drop, set, length-append, length-take, length-drop}
 use lib.Seq.{sets-eq, take-append-add}
-use lib.Dec.{leb}
-use borrow.Author.Tests.{leb-true, lt-ltb, le-ltb}
+use lib.Dec.{leb, eqb}
+use borrow.Author.Tests.{leb-true, lt-ltb, le-ltb, eq-eqb, ne-eqb}
 use mathlib.Core.Bool.{Bool, true, false}
 use Rattle.words.specs.Lists.{pick, over, overAt, Copied}
 use Rattle.words.proofs.Lists.{over-over, over-overAt, length-overAt, take-over, drop-overAt, part-over, copied-over, set-overAt, never}
 use Rattle.packet.specs.Opcodes.{cmdAck, cmdNak}
 use Rattle.packet.specs.Packet.{bodyOf, checksumOf, seal, statusAllowed, sourceAllowed, fieldsOf, buildOf, written, replyData, replyOpcode, replyBody}
-use Rattle.packet.specs.Promises.{Sum, Fields, Headed, Sealed, Build, Fill, Answer, AllowedSource}
+use Rattle.packet.specs.Promises.{Cause, Sum, Fields, Headed, Sealed, Build, Fill, Answer, Naks, AllowedSource}
+use Rattle.packet.specs.Refusals.{causeOf, nakBytes, nakOf}
+use Rattle.packet.specs.Sizes.{answerSize}
 use Rattle.packet.specs.declared.Refusal.{Refusal}
 use Rattle.packet.specs.declared.Refusal.the-variants.{Source, Status, Data, Room}
 use Rattle.packet.specs.declared.Reply.{Reply}
@@ -200,5 +202,50 @@ module _ {room room′ : List ℕ} {s : ℕ} {y : Reply} {r : Built} (a : source
   pub reply-never : {x : Refusal} → r ≡ Refused x → ⊥
   reply-never e =
       let b = built-reply room s y a h in
+      let i = k .is in
+      never (cc)
+
+-- ---- `nak`
+
+pub nak-room : {room : List ℕ} {s : ℕ} {x : Refusal} → length room < answerSize → Naks room s x (Refused Room) room
+unfolding written over nakOf
+nak-room {room} {s} {x} h = record { is = sym (simp (lt-ltb (length room) answerSize h)); room-is = refl }
+
+module _ {room : List ℕ} {s c : ℕ} {x : Refusal} (h : answerSize ≤ length room) (k : Cause x c) where
+  pub nak-silent : c ≡ 0 → Naks room s x (Written 0) room
+  unfolding written over nakOf nakBytes
+  nak-silent e =
+      let none : eqb (causeOf x) 0 ≡ true = eq-eqb (causeOf x) 0 (sym (k .is) ∙ e) in
+      record { is = sym (simp (le-ltb (length room) answerSize h, none)); room-is = sym (simp none) }
+
+  pub nak-said : {r : Built} {room₂ : List ℕ} → (c ≡ 0 → ⊥) → Answer room s (Nak c) r room₂ → Naks room s x r room₂
+  unfolding nakOf nakBytes replyOpcode replyData
+  nak-said {r} d a =
+      let some : eqb (causeOf x) 0 ≡ false = ne-eqb (causeOf x) 0 (λ e. d (k .is ∙ e)) in
+      record {
+        is = a .is ∙ (enough answerSize room cmdNak s 0 1 h ∙ sym (simp (le-ltb (length room) answerSize h, some)));
+        room-is = a .room-is ∙ rw (k .is) (sym (simp some));
+      }
+
+-- The same of a NAK: never refused, and its length is that of the bytes that answer, which are none where nothing answers.
+built-nak : (room : List ℕ) (s : ℕ) (x : Refusal) → sourceAllowed s ≡ true → answerSize ≤ length room → nakOf room s x ≡ Written (length (nakBytes s x))
+unfolding nakOf nakBytes fieldsOf statusAllowed seal replyBody replyOpcode replyData bodyOf
+built-nak room s x a h = built-by (eqb (causeOf x) 0) refl
+  where
+    built-by : (b : Bool) → eqb (causeOf x) 0 ≡ b → nakOf room s x ≡ Written (length (nakBytes s x))
+    built-by true e = simp (le-ltb (length room) answerSize h, e)
+    built-by false e = simp (le-ltb (length room) answerSize h, e, a)
+
+module _ {room room′ : List ℕ} {s : ℕ} {x : Refusal} {r : Built} (a : sourceAllowed s ≡ true) (h : answerSize ≤ length room) (k : Naks room s x r room′) where
+  pub nak-length : {n : ℕ} → r ≡ Written n → (n ≡ length (nakBytes s x)) × (room′ ≡ over (nakBytes s x) room)
+  unfolding written
+  nak-length e =
+      let b = built-nak room s x a h in
+      let i = k .is in
+      (cc, rw e at (k .room-is))
+
+  pub nak-never : {y : Refusal} → r ≡ Refused y → ⊥
+  nak-never e =
+      let b = built-nak room s x a h in
       let i = k .is in
       never (cc)

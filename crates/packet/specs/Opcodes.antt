@@ -1,4 +1,4 @@
--- Document 01: the opcodes by name, and the two sources.
+-- §2, §7, §8 and §11: the two sources, and the opcodes by name.
 use Prim.Native.Nat.{ℕ}
 
 abbrev pub host : ℕ

@@ -1,4 +1,4 @@
--- Document 01, 'The packet': layout, checksum, status, the packet check, building, ACK and NAK.
+-- §2 to §4 and §7: layout, checksum, status, the packet check, building, ACK and NAK.
 use Prim.Native.Nat.{ℕ, _+_, _-_, _*_, _/_, _%_}
 use mathlib.Core.Bool.{Bool}
 use mathlib.Core.List.{List, [], _∷_, _++_}
@@ -6,6 +6,7 @@ use lib.Dec.{eqb, ltb, leb}
 use lib.ListN.{length, getD, take, drop, set}
 use Rattle.words.specs.Lists.{pick, both, either, sameBytes}
 use Rattle.packet.specs.Opcodes.{host, reader, cmdAck, cmdNak, decodeData}
+use Rattle.packet.specs.Sizes.{dataSize}
 use Rattle.packet.specs.declared.Refusal.the-variants.{Length, Checksum, Cut, Source, Status, Data, Room}
 use Rattle.packet.specs.declared.Head.{Head}
 use Rattle.packet.specs.declared.Checked.{Checked}
@@ -74,7 +75,7 @@ sourceAllowed source = either (eqb source reader) (eqb source host)
 unfoldable pub fieldsOf : ℕ → ℕ → ℕ → ℕ → Built
 fieldsOf opcode source status n =
     pick (sourceAllowed source)
-    (pick (statusAllowed opcode status) (pick (leb n 251) (built.Written (n + 6)) (built.Refused Data)) (built.Refused Status))
+    (pick (statusAllowed opcode status) (pick (leb n dataSize) (built.Written (n + 6)) (built.Refused Data)) (built.Refused Status))
     (built.Refused Source)
 
 -- Before these 13, for less room than the call asks for.
@@ -85,6 +86,11 @@ buildOf need room opcode source status n = pick (ltb (length room) need) (built.
 unfoldable pub written : Built → List ℕ → List ℕ
 written (built.Written n) packet = packet
 written (built.Refused r) packet = []
+
+-- So many bytes were written; none where it was refused.
+abbrev pub sizeOf : Built → ℕ
+sizeOf (built.Written n) = n
+sizeOf (built.Refused r) = 0
 
 -- CMD_ACK has no data, CMD_NAK one cause byte. All answers have status 0.
 unfoldable pub replyData : Reply → List ℕ

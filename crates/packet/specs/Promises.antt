@@ -9,8 +9,9 @@ use Rattle.packet.specs.declared.Refusal.{Refusal}
 use Rattle.packet.specs.declared.Checked.{Checked}
 use Rattle.packet.specs.declared.Built.{Built}
 use Rattle.packet.specs.declared.Reply.{Reply}
-use Rattle.packet.specs.Packet.{bodyOf, sumOf, seal, dataIn, checkOf, statusAllowed, sourceAllowed, fieldsOf, buildOf, written, replyData, replyOpcode, replyBody, unmarked, equalUnmarked, resentEqual, isAnswer}
-use Rattle.packet.specs.Refusals.{numberOf, causeOf}
+use Rattle.packet.specs.Packet.{bodyOf, sumOf, seal, dataIn, checkOf, statusAllowed, sourceAllowed, fieldsOf, buildOf, written, sizeOf, replyData, replyOpcode, replyBody, unmarked, equalUnmarked, resentEqual, isAnswer}
+use Rattle.packet.specs.Refusals.{numberOf, causeOf, nakBytes, nakOf}
+use Rattle.packet.specs.Sizes.{packetSize, answerSize}
 
 pub record Number (refusal : Refusal) (r : ℕ) : Type 0 where
   pub is : r ≡ numberOf refusal
@@ -44,9 +45,12 @@ pub record Headed (room : List ℕ) (opcode source status n : ℕ) (room′ : Li
 pub record Sealed (room : List ℕ) (n : ℕ) (room′ : List ℕ) : Type 0 where
   pub is : room′ ≡ over (seal (take n room)) room
 
+pub record SizeOf (b : Built) (r : ℕ) : Type 0 where
+  pub is : r ≡ sizeOf b
+
 -- `build`: the data is lent beside the room.
 pub record Build (room : List ℕ) (opcode source status : ℕ) (carried : List ℕ) (r : Built) (room′ : List ℕ) : Type 0 where
-  pub is : r ≡ buildOf 257 room opcode source status (length carried)
+  pub is : r ≡ buildOf packetSize room opcode source status (length carried)
   pub room-is : room′ ≡ over (written r (seal (bodyOf opcode source status carried))) room
 
 -- `fill`: the data, n bytes, already stands in the room from the fifth byte on.
@@ -56,8 +60,13 @@ pub record Fill (room : List ℕ) (opcode source status n : ℕ) (r : Built) (ro
 
 -- `answer`: ACK or NAK.
 pub record Answer (room : List ℕ) (source : ℕ) (reply : Reply) (r : Built) (room′ : List ℕ) : Type 0 where
-  pub is : r ≡ buildOf 7 room (replyOpcode reply) source 0 (length (replyData reply))
+  pub is : r ≡ buildOf answerSize room (replyOpcode reply) source 0 (length (replyData reply))
   pub room-is : room′ ≡ over (written r (seal (replyBody source reply))) room
+
+-- `nak`: the NAK that answers a refusal, or no bytes where none does.
+pub record Naks (room : List ℕ) (source : ℕ) (refusal : Refusal) (r : Built) (room′ : List ℕ) : Type 0 where
+  pub is : r ≡ nakOf room source refusal
+  pub room-is : room′ ≡ over (written r (nakBytes source refusal)) room
 
 pub record Equal (a b : List ℕ) (r : Bool) : Type 0 where
   pub is : r ≡ equalUnmarked a b

@@ -1,5 +1,15 @@
--- Document 01, 'Refusal numbers': the number of each refusal, and the NAK that answers it on the line.
+-- §6: the number of each refusal, and the NAK that answers it on the line.
 use Prim.Native.Nat.{ℕ}
+use mathlib.Core.List.{List, []}
+use lib.Dec.{eqb, ltb}
+use lib.ListN.{length}
+use Rattle.words.specs.Lists.{pick}
+use Rattle.packet.specs.Opcodes.{cmdNak}
+use Rattle.packet.specs.Packet.{seal, fieldsOf, replyBody}
+use Rattle.packet.specs.Sizes.{answerSize}
+use Rattle.packet.specs.declared.Built.{Built}
+use Rattle.packet.specs.declared.Built.the-variants as built
+use Rattle.packet.specs.declared.Reply.the-variants.{Nak}
 use Rattle.packet.specs.declared.Refusal.{Refusal}
 use Rattle.packet.specs.declared.Refusal.the-variants.{Length, Checksum, Cut, Source, Status, Opcode, Data, Beep, Setting, Barred, Start, Room}
 
@@ -31,3 +41,13 @@ causeOf Setting = 6
 causeOf Barred = 6
 causeOf Start = 0
 causeOf Room = 0
+
+-- The bytes that answer a refusal: NAK with its cause, and none for those that nothing answers.
+unfoldable pub nakBytes : ℕ → Refusal → List ℕ
+nakBytes source refusal = pick (eqb (causeOf refusal) 0) [] (seal (replyBody source (Nak (causeOf refusal))))
+
+-- Writing them: 13 for less room than any answer asks for; nothing to write, or a NAK built as always.
+unfoldable pub nakOf : List ℕ → ℕ → Refusal → Built
+nakOf room source refusal =
+    pick (ltb (length room) answerSize) (built.Refused Room)
+    (pick (eqb (causeOf refusal) 0) (built.Written 0) (fieldsOf cmdNak source 0 1))

@@ -2,7 +2,21 @@
 use words::wide;
 ghost use Prim.Native.Nat.{_+_, _≤_};
 ghost use lib.ListN.{length};
-ghost use Rattle.packet.specs.Promises.{Number, Cause, Sum, Check, DataPart, Allowed, AllowedSource, Fields, Headed, Sealed, Build, Fill, Answer, Equal, Resent, IsAnswer};
+ghost use Rattle.packet.specs.Promises.{Number, Cause, Sum, Check, DataPart, Allowed, AllowedSource, Fields, Headed, Sealed, SizeOf, Build, Fill, Answer, Naks, Equal, Resent, IsAnswer};
+ghost use Rattle.packet.specs.Sizes.{headSize, checksumSize, dataSize, bodySize, answerSize};
+
+// The four bytes before the data, and the checksum behind it.
+pub const HEAD_SIZE: usize = 4;
+
+pub const CHECKSUM_SIZE: usize = 2;
+// The longest data, and the longest packet with its checksum.
+pub const DATA_SIZE: usize = 251;
+
+pub const PACKET_SIZE: usize = HEAD_SIZE + DATA_SIZE + CHECKSUM_SIZE;
+// The longest ACK or NAK, which is a NAK.
+pub const ANSWER_SIZE: usize = HEAD_SIZE + 1 + CHECKSUM_SIZE;
+// The longest message, its code type not counted.
+pub const MESSAGE_SIZE: usize = 4096;
 
 // The two sources.
 pub const HOST: u8 = 4;
@@ -135,7 +149,7 @@ pub fn cause(refusal: Refusal) -> u8
 
 // The byte sum of a body.
 fn sum(s: &[u8]) -> usize
-    requires { ⌜ length (now s) ≤ 255 ⌝ }
+    requires { ⌜ length (now s) ≤ bodySize ⌝ }
     ensures { λ r. ⌜ Sum (now (s .entry)) r ⌝ }
 {
     let mut total: usize = 0;
@@ -223,7 +237,7 @@ fn fields(opcode: u8, source: u8, status: u8, n: usize) -> Built
 {
     if source_allowed(source) {
         if status_allowed(opcode, status) {
-            if n <= 251 {
+            if n <= DATA_SIZE {
                 return Built::Written(n + 6);
             }
             return Built::Refused(Refusal::Data);
@@ -235,7 +249,7 @@ fn fields(opcode: u8, source: u8, status: u8, n: usize) -> Built
 
 // The four bytes before the data.
 fn header(room: &mut [u8], opcode: u8, source: u8, status: u8, n: usize)
-    requires { ⌜ (n ≤ 251) × (4 ≤ length (now room)) ⌝ }
+    requires { ⌜ (n ≤ dataSize) × (headSize ≤ length (now room)) ⌝ }
     ensures { λ _. ⌜ Headed (now (room .entry)) opcode source status n (now (room .exit)) ⌝ }
 {
     room[0] = ((n + 4) % 256) as u8;
@@ -246,7 +260,7 @@ fn header(room: &mut [u8], opcode: u8, source: u8, status: u8, n: usize)
 
 // The two bytes after a body of n bytes.
 fn checksum(room: &mut [u8], n: usize)
-    requires { ⌜ (n ≤ 255) × (n + 2 ≤ length (now room)) ⌝ }
+    requires { ⌜ (n ≤ bodySize) × (n + checksumSize ≤ length (now room)) ⌝ }
     ensures { λ _. ⌜ Sealed (now (room .entry)) n (now (room .exit)) ⌝ }
 {
     let worked = 65536 - sum(&room[..n]);
@@ -277,7 +291,7 @@ pub fn fill(room: &mut [u8], opcode: u8, source: u8, status: u8, n: usize) -> Bu
 pub fn build(room: &mut [u8], opcode: u8, source: u8, status: u8, data: &[u8]) -> Built
     ensures { λ r. ⌜ Build (now (room .entry)) opcode source status (now («data» .entry)) r (now (room .exit)) ⌝ }
 {
-    if room.len() < 257 {
+    if room.len() < PACKET_SIZE {
         return Built::Refused(Refusal::Room);
     }
     let judged = fields(opcode, source, status, data.len());
@@ -288,21 +302,45 @@ pub fn build(room: &mut [u8], opcode: u8, source: u8, status: u8, data: &[u8]) -
     fill(room, opcode, source, status, data.len())
 }
 
+// How many bytes were written; none where it was refused.
+pub fn size_of(built: Built) -> usize
+    ensures { λ r. ⌜ SizeOf built r ⌝ }
+{
+    match built {
+        Built::Written(size) => size,
+        Built::Refused(_) => 0,
+    }
+}
+
 // An answer of either side: CMD_ACK, or CMD_NAK with its cause.
 pub fn answer(room: &mut [u8], source: u8, reply: Reply) -> Built
     ensures { λ r. ⌜ Answer (now (room .entry)) source reply r (now (room .exit)) ⌝ }
 {
-    if room.len() < 7 {
+    if room.len() < ANSWER_SIZE {
         return Built::Refused(Refusal::Room);
     }
     match reply {
         Reply::Ack => fill(room, CMD_ACK, source, 0, 0),
-        Reply::Nak(cause) => nak(room, source, cause),
+        Reply::Nak(cause) => with_cause(room, source, cause),
     }
 }
 
-fn nak(room: &mut [u8], source: u8, cause: u8) -> Built
-    requires { ⌜ 7 ≤ length (now room) ⌝ }
+// The NAK that answers a refusal: its size, 0 where nothing answers it.
+pub fn nak(room: &mut [u8], source: u8, refusal: Refusal) -> Built
+    ensures { λ r. ⌜ Naks (now (room .entry)) source refusal r (now (room .exit)) ⌝ }
+{
+    if room.len() < ANSWER_SIZE {
+        return Built::Refused(Refusal::Room);
+    }
+    let cause = cause(refusal);
+    if cause == 0 {
+        return Built::Written(0);
+    }
+    with_cause(room, source, cause)
+}
+
+fn with_cause(room: &mut [u8], source: u8, cause: u8) -> Built
+    requires { ⌜ answerSize ≤ length (now room) ⌝ }
     ensures { λ r. ⌜ Answer (now (room .entry)) source (Reply.Nak cause) r (now (room .exit)) ⌝ }
 {
     if source_allowed(source) {

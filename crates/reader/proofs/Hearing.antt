@@ -10,13 +10,15 @@ use lib.ListN.{length, getD, length-take}
 use lib.Seq.{length-take-le}
 use borrow.Author.Tests.{le-leb, le-ltb, lt-ltb}
 use Rattle.words.specs.Lists.{pick, over}
-use Rattle.words.specs.Machine.{Done, through}
+use Rattle.words.specs.Machine.{Done, through, given}
 use Rattle.words.proofs.Lists.{over-nil, over-take, take-over, never}
 use Rattle.words.proofs.Machine.{through-one}
 use Rattle.packet.specs.Opcodes as opcode
-use Rattle.packet.specs.Opcodes.{host, paramSend, paramRequest}
+use Rattle.packet.specs.Opcodes.{host, paramSend}
 use Rattle.packet.specs.Packet.{bodyOf, seal, dataIn, statusAllowed, replyData, replyOpcode, replyBody, unmarked, resentEqual, isAnswer}
 use Rattle.packet.specs.Promises.{IsAnswer}
+use Rattle.packet.specs.Refusals.{nakBytes}
+use Rattle.packet.specs.Sizes.{bodySize, packetSize}
 use Rattle.packet.specs.declared.Refusal.{Refusal}
 use Rattle.packet.specs.declared.Refusal.the-variants as refusal
 use Rattle.packet.specs.declared.Head.{Head}
@@ -32,35 +34,39 @@ use Rattle.framer.specs.declared.Halves.{Halves}
 use Rattle.framer.specs.declared.Listened.{Listened}
 use Rattle.framer.specs.declared.Found.the-variants as found
 use Rattle.framer.proofs.TwoHalves.{kept-listened, listened-nothing, listened-refused, listened-packet, line-behind, kept-behind, control-behind}
-use Rattle.sender.specs.Sender.{SenderState, waits, Sent, answered, senderStep}
+use Rattle.sender.specs.Sender.{SenderState, waits, Sent, senderStep}
 use Rattle.sender.specs.Promises as sending
 use Rattle.sender.specs.declared.Sender.{Sender}
 use Rattle.sender.specs.declared.Heard.{Heard}
 use Rattle.sender.specs.declared.Heard.the-variants.{Ack, Nothing}
 use Rattle.sender.proofs.Standing.{control-stands}
+use Rattle.table.specs.Rows.{pairsSize}
 use Rattle.table.specs.Table.{answerData}
-use Rattle.table.proofs.Finding.{many}
 use Rattle.table.proofs.Theorems.{answer-most}
-use Rattle.commands.specs.Commands.{DeviceState, isKnown, lengthAllowed, Acted, denied, acted, command}
-use Rattle.reader.specs.Reader.{CoreState, Output, refused, repeated, beeped, switched, sent, answering, handshake, replyBytes, requestBytes, nakBytes, refuses, noPacketStep, answerTo, acts, commandStep, judgedStep, senderHears, packetStep, heardStep, readerStep}
-use Rattle.reader.specs.Promises.{toldOf, answerOf, sentOf, answeredOf, soundCore, coreOf, stateOf, accepts, acceptsName, senderHearing, heeded, senderAfter, coreAfter, readerOf, tooSmall, Steps, senderThrough, controlAfter, Hears, NoRoom, SoundCore, Leaves, Judges, Quiet, ToSender, Settles, Receives}
+use Rattle.commands.specs.Commands.{DeviceState, namedBy, lengthAllowed, Acted, denied, acted, effect}
+use Rattle.commands.specs.declared.Command.{Command}
+use Rattle.commands.specs.declared.Named.{Named}
+use Rattle.commands.specs.declared.Named.the-variants.{Unknown, Known}
+use Rattle.reader.specs.Reader.{CoreState, Output, refused, repeated, beeped, switched, answered, sent, readerAnswerSize, handshake, ifHandshake, requestBytes, refuses, noPacketStep, isRequest, answerTo, acts, commandStep, knownStep, namedStep, judgedStep, senderHears, packetStep, heardStep, readerStep}
+use Rattle.reader.specs.Promises.{toldOf, answerOf, sentOf, lastAnswerOf, soundCore, coreOf, stateOf, accepts, acceptsName, senderHearing, heeded, senderAfter, coreAfter, readerOf, tooSmall, Steps, senderThrough, controlAfter, Hears, NoRoom, SoundCore, Leaves, Judges, StepOf, ToSender, Settles, Receives}
+use Rattle.reader.specs.declared.Told.the-variants as told
 use Rattle.reader.specs.declared.Core.{Core}
 use Rattle.reader.specs.declared.Stepped.{Stepped}
 use Rattle.reader.specs.declared.Reader.{Reader}
-use Rattle.reader.specs.declared.Answered.{Answered}
+use Rattle.reader.specs.declared.Taken.{Taken}
 
 -- ---- what a step keeps
 
 -- The longest answer is a PARAM_SEND with all parameters.
-answer-by : (a b : Bool) (d : List ℕ) → length d ≤ 19 → length (pick a (seal (bodyOf paramSend opcode.reader 0 d)) (pick b (seal (replyBody opcode.reader reply.Ack)) [])) ≤ 25
+answer-by : (a b : Bool) (d : List ℕ) → length d ≤ pairsSize → length (pick a (seal (bodyOf paramSend opcode.reader 0 d)) (pick b (seal (replyBody opcode.reader reply.Ack)) [])) ≤ readerAnswerSize
 unfolding replyBody replyOpcode replyData
 answer-by true b d h = rw (length-seal (bodyOf paramSend opcode.reader 0 d), length-body paramSend opcode.reader 0 d) (omega arith)
 answer-by false true d h = rw (length-seal (replyBody opcode.reader reply.Ack), length-body (replyOpcode reply.Ack) opcode.reader 0 []) (omega arith)
 answer-by false false d h = omega arith
 
-answer-few : (d : DeviceState) (o : ℕ) (carried : List ℕ) → length (answerTo d o carried) ≤ 25
-unfolding answerTo replyBytes requestBytes
-answer-few d o carried = answer-by (eqb o paramRequest) (handshake d) (answerData (d .values) carried) (let m = answer-most (d .values) carried in omega (arith, many))
+answer-few : (d : DeviceState) (k : Command) (carried : List ℕ) → length (answerTo d k carried) ≤ readerAnswerSize
+unfolding answerTo ifHandshake requestBytes
+answer-few d k carried = answer-by (isRequest k) (handshake d) (answerData (d .values) carried) (answer-most (d .values) carried)
 
 accepts-done : (rows : List (List ℕ)) (d : DeviceState) (outs : List Output) → accepts (map beeped rows ++ (switched d ∷ outs)) ≡ true
 unfolding accepts toldOf
@@ -83,7 +89,7 @@ no-packet-left c x = left-by (waits (c .sender)) c x
 
 -- A step of the core on a body: the answer fits its buffer, the last accepted packet is the body where it was accepted, and the sender's state.
 record Kept (c : CoreState) (body : List ℕ) (sender : SenderState) (d : Done CoreState Output) : Type 0 where
-  few : length (d .next .lastAnswer) ≤ 25
+  few : length (d .next .lastAnswer) ≤ readerAnswerSize
   last-is : d .next .last ≡ pick (accepts (d .told)) (unmarked body) (c .last)
   sender-is : d .next .sender ≡ sender
 
@@ -92,37 +98,39 @@ kept-test : {c : CoreState} {body : List ℕ} {sender : SenderState} {d d′ : D
 kept-test true k k′ = k
 kept-test false k k′ = k′
 
-module _ (c : CoreState) (body : List ℕ) (few : length (c .lastAnswer) ≤ 25) where
+module _ (c : CoreState) (body : List ℕ) (few : length (c .lastAnswer) ≤ readerAnswerSize) where
   kept-still : (outs : List Output) → accepts outs ≡ false → Kept c body (c .sender) (record { next = c; told = outs })
   kept-still outs e = record { few = few; last-is = simp e; sender-is = refl }
 
   kept-refused : (x : Refusal) → Kept c body (c .sender) (refuses c x)
   unfolding accepts toldOf
-  kept-refused x = kept-still (refused x ∷ answering (nakBytes (c .device) x)) refl
+  kept-refused x = kept-still (refused x ∷ given answered (ifHandshake (c .device) (nakBytes opcode.reader x))) refl
 
   kept-no-packet : (x : Refusal) → Kept c body (c .sender) (noPacketStep c x)
   unfolding noPacketStep accepts toldOf
   kept-no-packet x = kept-test (waits (c .sender)) (kept-still (refused x ∷ []) refl) (kept-refused x)
 
-  kept-acts : (act : Acted) → Kept c body (c .sender) (acts c body act)
+  kept-acts : (k : Command) (act : Acted) → Kept c body (c .sender) (acts c k body act)
   unfolding acts
-  kept-acts (denied x) = kept-refused x
-  kept-acts (acted d rows) =
-      let bytes : List ℕ = answerTo (c .device) (getD body 1 0) (dataIn body) in
-      record { few = answer-few (c .device) (getD body 1 0) (dataIn body); last-is = simp (accepts-done rows d (answering bytes)); sender-is = refl }
+  kept-acts k (denied x) = kept-refused x
+  kept-acts k (acted d rows) =
+      let bytes : List ℕ = answerTo (c .device) k (dataIn body) in
+      record { few = answer-few (c .device) k (dataIn body); last-is = simp (accepts-done rows d (given answered bytes)); sender-is = refl }
+
+  kept-named : (n : Named) → Kept c body (c .sender) (namedStep n c body)
+  unfolding namedStep knownStep commandStep accepts toldOf
+  kept-named Unknown = kept-refused refusal.Opcode
+  kept-named (Known k) =
+      kept-test (lengthAllowed k (dataIn body))
+      (kept-test (resentEqual (c .last) body) (kept-still (repeated ∷ given answered (c .lastAnswer)) refl)
+      (kept-acts k (effect (c .device) k (getD body 3 0) (dataIn body))))
+      (kept-refused refusal.Data)
 
   kept-judged : Kept c body (c .sender) (judgedStep c body)
-  unfolding judgedStep commandStep accepts toldOf
+  unfolding judgedStep
   kept-judged =
       kept-test (eqb (getD body 2 0) host)
-      (kept-test (statusAllowed (getD body 1 0) (getD body 3 0))
-      (kept-test (isKnown (getD body 1 0))
-      (kept-test (lengthAllowed (getD body 1 0) (dataIn body))
-      (kept-test (resentEqual (c .last) body) (kept-still (repeated ∷ answering (c .lastAnswer)) refl)
-      (kept-acts (command (c .device) (getD body 1 0) (getD body 3 0) (dataIn body))))
-      (kept-refused refusal.Data))
-      (kept-refused refusal.Opcode))
-      (kept-refused refusal.Status))
+      (kept-test (statusAllowed (getD body 1 0) (getD body 3 0)) (kept-named (namedBy (getD body 1 0))) (kept-refused refusal.Status))
       (kept-refused refusal.Source)
 
   packet-by : (a : Bool) (d : Done SenderState Sent) → Kept c body (pick a (d .next) (c .sender)) (pick a (senderHears c d) (judgedStep c body))
@@ -143,9 +151,9 @@ after-by s message h false = refl
 
 -- ---- `received`
 
-module _ {h : Halves} {c : Core} {n : ℕ} {line body answers message answer copy : List ℕ} {a : Bool} {s : Stepped} {r : Answered}
+module _ {h : Halves} {c : Core} {n : ℕ} {line body answers message answer copy : List ℕ} {a : Bool} {s : Stepped} {r : Taken}
     (received : Received h line n body) (p : IsAnswer (getD body 1 0) a) (settles : Settles h n s r) where
-  pub received-answer : {copy′ : List ℕ} → c .answered ≤ length answers → a ≡ true → ToSender c body message copy s copy′ →
+  pub received-answer : {copy′ : List ℕ} → c .«last_answer» ≤ length answers → a ≡ true → ToSender c body message copy s copy′ →
       Receives h c n line answers message answer copy r answers answer copy′
   unfolding packetStep senderAfter coreOf
   received-answer few e k =
@@ -174,26 +182,26 @@ abbrev framerAt : Reader → List ℕ → Event → Done line.Line line.Heard
 framerAt reader buffer e = framerStep (lineIn (reader .line) buffer) e
 
 -- What a control value and the answers' buffer stand for after a step of the core.
-core-back : (d : Done CoreState Output) (s : Sender) (last answers message : List ℕ) → length (d .next .lastAnswer) ≤ 25 → sending.stateOf s message ≡ d .next .sender →
-    coreOf (record { answered = answeredOf (length (d .next .lastAnswer)); device = coreAfter d s .device; sender = s }) last (over (d .next .lastAnswer) answers) message
+core-back : (d : Done CoreState Output) (s : Sender) (last answers message : List ℕ) → length (d .next .lastAnswer) ≤ readerAnswerSize → sending.stateOf s message ≡ d .next .sender →
+    coreOf (record { «last_answer» = lastAnswerOf (length (d .next .lastAnswer)); device = coreAfter d s .device; sender = s }) last (over (d .next .lastAnswer) answers) message
     ≡ record { device = d .next .device; last = unmarked last; lastAnswer = d .next .lastAnswer; sender = d .next .sender }
-unfolding coreOf answeredOf
+unfolding coreOf lastAnswerOf
 core-back d s last answers message few e =
-    simp (le-leb (length (d .next .lastAnswer)) 25 few, take-over (d .next .lastAnswer) answers (length (d .next .lastAnswer)) refl, e)
+    simp (le-leb (length (d .next .lastAnswer)) readerAnswerSize few, take-over (d .next .lastAnswer) answers (length (d .next .lastAnswer)) refl, e)
 
 -- The answer that is kept fits its buffer.
-few-kept : {reader : Reader} {c : Core} (line answers message : List ℕ) → SoundCore reader answers c → length (coreAt reader line answers message .lastAnswer) ≤ 25
+few-kept : {reader : Reader} {c : Core} (line answers message : List ℕ) → SoundCore reader answers c → length (coreAt reader line answers message .lastAnswer) ≤ readerAnswerSize
 unfolding coreOf
 few-kept line answers message sound = let f = rw (sound .is) at (sound .few) in let l = sound .long in simp length-take (omega arith)
 
 module _ {reader : Reader} {line : List ℕ} {e : Event} {l : Listened} {line′ : List ℕ} (k : Listens (reader .line) line e l line′)
-    {answer copy : List ℕ} (a : 25 ≤ length answer) (b : 257 ≤ length copy) where
+    {answer copy : List ℕ} (a : readerAnswerSize ≤ length answer) (b : packetSize ≤ length copy) where
   -- The core's step on what was told, d, with the control value and the buffers that it leaves.
-  settled : {d : Done CoreState Output} {n : ℕ} {s : Sender} {st : Stepped} {r : Answered} {answers message answers′ answer′ copy′ : List ℕ} →
+  settled : {d : Done CoreState Output} {n : ℕ} {s : Sender} {st : Stepped} {r : Taken} {answers message answers′ answer′ copy′ : List ℕ} →
       through heardStep (coreAt reader line answers message) (framerAt reader line e .told) ≡ d →
       senderThrough (reader .sender) message (framerAt reader line e .told) ≡ s →
       Kept (coreAt reader line answers message) (receivedIn (l .halves) line′ n) (sending.stateOf s message) d →
-      n ≤ 255 →
+      n ≤ bodySize →
       (accepts (d .told) ≡ true → length (receivedIn (l .halves) line′ n) ≡ n) →
       (accepts (d .told) ≡ true → framerAt reader line e .next ≡ hearing []) →
       Steps d s answers answer copy st answers′ answer′ copy′ →
@@ -201,12 +209,12 @@ module _ {reader : Reader} {line : List ℕ} {e : Event} {l : Listened} {line′
       Hears reader line answers message answer copy e r line′ answers′ answer′ copy′
   unfolding tooSmall readerStep framed stateOf controlAfter coreOf
   settled {d} {n} {s} {st} {r} {answers} {message} t u kept h size idle steps settles =
-      let p = le-ltb (length answer) 25 a in
-      let q = le-ltb (length copy) 257 b in
+      let p = le-ltb (length answer) readerAnswerSize a in
+      let q = le-ltb (length copy) packetSize b in
       let yes = accepts (d .told) in
       let next : Reader = readerOf (pick yes (acceptedOf (l .halves) n) (l .halves)) (coreAfter d s) in
       let reader-is : r .reader ≡ next =
-      ap (λ (x : Answered). x .reader) (settles .is) ∙ rw (steps .told-is, accepts-name (d .told), steps .core-is) refl in
+      ap (λ (x : Taken). x .reader) (settles .is) ∙ rw (steps .told-is, accepts-name (d .told), steps .core-is) refl in
       let last-is : unmarked (keptIn (next .line) line′) ≡ d .next .last =
       ap unmarked (kept-behind k yes n h) ∙ (unmarked-pick yes (receivedIn (l .halves) line′ n) (keptIn (reader .line) line) ∙ sym (kept .last-is)) in
       let core = core-back d s (keptIn (next .line) line′) answers message (kept .few) (sym (kept .sender-is)) in
@@ -223,12 +231,12 @@ module _ {reader : Reader} {line : List ℕ} {e : Event} {l : Listened} {line′
       }
 
   -- What the framer does not let through, and what it finds, by the control value that is taken.
-  module _ {c : Core} {answers message : List ℕ} {r : Answered} (sound : SoundCore reader answers c) where
-    pub hear-nothing : {st : Stepped} → l .found ≡ found.Nothing → Quiet c st → Settles (l .halves) 0 st r →
+  module _ {c : Core} {answers message : List ℕ} {r : Taken} (sound : SoundCore reader answers c) where
+    pub hear-nothing : {st : Stepped} → l .found ≡ found.Nothing → StepOf c told.Nothing 0 st → Settles (l .halves) 0 st r →
         Hears reader line answers message answer copy e r line′ answers answer copy
     unfolding through senderThrough accepts toldOf answerOf sentOf sending.nameOf sending.copyOf coreOf
     hear-nothing {st} q quiet settles =
-        let n = answeredOf (reader .answered) in
+        let n = lastAnswerOf (reader .«last_answer») in
         let f = rw (sound .is) at (sound .few) in
         settled {n = 0} {s = reader .sender}
         (rw (listened-nothing k q) refl)
@@ -280,7 +288,7 @@ module _ {reader : Reader} {line : List ℕ} {e : Event} {l : Listened} {line′
         (receives .settles)
 
 -- Number 13.
-hear-small : {reader : Reader} {line answers message answer copy : List ℕ} {e : Event} {r : Answered} → tooSmall answer copy ≡ true → NoRoom reader r →
+hear-small : {reader : Reader} {line answers message answer copy : List ℕ} {e : Event} {r : Taken} → tooSmall answer copy ≡ true → NoRoom reader r →
     Hears reader line answers message answer copy e r line answers answer copy
 hear-small t k =
     record {
@@ -292,12 +300,12 @@ hear-small t k =
       copy-is = simp (t, over-nil);
     }
 
-pub hear-answer : {reader : Reader} {line answers message answer copy : List ℕ} {e : Event} {r : Answered} → length answer < 25 → NoRoom reader r →
+pub hear-answer : {reader : Reader} {line answers message answer copy : List ℕ} {e : Event} {r : Taken} → length answer < readerAnswerSize → NoRoom reader r →
     Hears reader line answers message answer copy e r line answers answer copy
 unfolding tooSmall
-hear-answer {answer = answer} h k = hear-small (simp (lt-ltb (length answer) 25 h)) k
+hear-answer {answer = answer} h k = hear-small (simp (lt-ltb (length answer) readerAnswerSize h)) k
 
-pub hear-copy : {reader : Reader} {line answers message answer copy : List ℕ} {e : Event} {r : Answered} → 25 ≤ length answer → length copy < 257 → NoRoom reader r →
+pub hear-copy : {reader : Reader} {line answers message answer copy : List ℕ} {e : Event} {r : Taken} → readerAnswerSize ≤ length answer → length copy < packetSize → NoRoom reader r →
     Hears reader line answers message answer copy e r line answers answer copy
 unfolding tooSmall
-hear-copy {answer = answer} {copy = copy} a h k = hear-small (simp (le-ltb (length answer) 25 a, lt-ltb (length copy) 257 h)) k
+hear-copy {answer = answer} {copy = copy} a h k = hear-small (simp (le-ltb (length answer) readerAnswerSize a, lt-ltb (length copy) packetSize h)) k

@@ -7,7 +7,7 @@ use native.Mathlib.Omega.{arith}
 use lib.Dec.{eqb}
 use lib.ListN.{getD}
 use Rattle.words.specs.Lists.{pick}
-use Rattle.words.specs.Machine.{Done, through}
+use Rattle.words.specs.Machine.{Done, through, given}
 use Rattle.words.proofs.Machine.{through-one}
 use Rattle.packet.specs.Opcodes.{host}
 use Rattle.packet.specs.Packet.{bodyIn, dataIn, statusAllowed, resentEqual, isAnswer}
@@ -19,9 +19,12 @@ use Rattle.framer.specs.declared.Event.{Event}
 use Rattle.framer.proofs.Outcomes as framer
 use Rattle.framer.proofs.Outcomes.{brings}
 use Rattle.sender.specs.Sender.{SenderState, Sent, senderStep, heedOf}
-use Rattle.commands.specs.Commands.{DeviceState, Acted, acted, isKnown, lengthAllowed}
+use Rattle.commands.specs.Commands.{DeviceState, Acted, acted, namedBy, lengthAllowed}
+use Rattle.commands.specs.declared.Command.{Command}
+use Rattle.commands.specs.declared.Named.{Named}
+use Rattle.commands.specs.declared.Named.the-variants.{Unknown, Known}
 use Rattle.commands.proofs.Outcomes.{Does, denies, keeps, resets, sets, does}
-use Rattle.reader.specs.Reader.{CoreState, ReaderState, Output, repeated, refuses, noPacketStep, answering, acts, commandStep, judgedStep, senderHears, packetStep, heardStep}
+use Rattle.reader.specs.Reader.{CoreState, ReaderState, Output, repeated, answered, refuses, noPacketStep, acts, commandStep, knownStep, namedStep, judgedStep, senderHears, packetStep, heardStep}
 
 -- ---- a packet
 
@@ -29,35 +32,38 @@ use Rattle.reader.specs.Reader.{CoreState, ReaderState, Output, repeated
 pub data Outcome (c : CoreState) (body : List ℕ) : Done CoreState Output → Type 0 where
   heeds : (d : Done SenderState Sent) → Outcome c body (senderHears c d)
   turns : {r : Refusal} → 4 ≤ numberOf r → (causeOf r ≡ 0 → ⊥) → Outcome c body (refuses c r)
-  repeats : resentEqual (c .last) body ≡ true → Outcome c body (record { next = c; told = repeated ∷ answering (c .lastAnswer) })
-  acts-on : {next : DeviceState} {rows : List (List ℕ)} → Does (c .device) (acted next rows) → Outcome c body (acts c body (acted next rows))
+  repeats : resentEqual (c .last) body ≡ true → Outcome c body (record { next = c; told = repeated ∷ given answered (c .lastAnswer) })
+  acts-on : (k : Command) {next : DeviceState} {rows : List (List ℕ)} → Does (c .device) (acted next rows) → Outcome c body (acts c k body (acted next rows))
 
 by-test : {c : CoreState} {body : List ℕ} {d d′ : Done CoreState Output} (b : Bool) → (b ≡ true → Outcome c body d) → (b ≡ false → Outcome c body d′) → Outcome c body (pick b d d′)
 by-test true h k = h refl
 by-test false h k = k refl
 
 module _ (c : CoreState) (body : List ℕ) where
-  acted-outcome : {a : Acted} → Does (c .device) a → Outcome c body (acts c body a)
+  acted-outcome : (k : Command) {a : Acted} → Does (c .device) a → Outcome c body (acts c k body a)
   unfolding acts
-  acted-outcome (denies h n) = turns h n
-  acted-outcome (keeps {rows} e) = acts-on {rows = rows} (keeps e)
-  acted-outcome (resets {rows} e) = acts-on {rows = rows} (resets e)
-  acted-outcome (sets {rows} f r e) = acts-on {rows = rows} (sets f r e)
+  acted-outcome k (denies h n) = turns h n
+  acted-outcome k (keeps {rows} e) = acts-on k {rows = rows} (keeps e)
+  acted-outcome k (resets {rows} e) = acts-on k {rows = rows} (resets e)
+  acted-outcome k (sets {rows} f r e) = acts-on k {rows = rows} (sets f r e)
 
   turned : (r : Refusal) → 4 ≤ numberOf r → (causeOf r ≡ 0 → ⊥) → Outcome c body (refuses c r)
   turned r h n = turns h n
 
+  named-outcome : (n : Named) → Outcome c body (namedStep n c body)
+  unfolding namedStep knownStep commandStep
+  named-outcome Unknown = turned refusal.Opcode (omega arith) (λ z. omega arith)
+  named-outcome (Known k) =
+      by-test (lengthAllowed k (dataIn body))
+      (λ l. by-test (resentEqual (c .last) body) repeats (λ e. acted-outcome k (does (c .device) k (getD body 3 0) (dataIn body))))
+      (λ l. turned refusal.Data (omega arith) (λ z. omega arith))
+
   pub packet-outcome : Outcome c body (packetStep c body)
-  unfolding packetStep judgedStep commandStep
+  unfolding packetStep judgedStep
   packet-outcome =
-      by-test (isAnswer (getD body 1 0)) (λ a. heeds (senderStep (c .sender) (heedOf (getD body 1 0) (getD body 2 0) (getD body 3 0) (dataIn body))))
+      by-test (isAnswer (getD body 1 0)) (λ a. heeds (senderStep (c .sender) (heedOf host (getD body 1 0) (getD body 2 0) (getD body 3 0) (dataIn body))))
       (λ a. by-test (eqb (getD body 2 0) host)
-      (λ s. by-test (statusAllowed (getD body 1 0) (getD body 3 0))
-      (λ t. by-test (isKnown (getD body 1 0))
-      (λ o. by-test (lengthAllowed (getD body 1 0) (dataIn body))
-      (λ l. by-test (resentEqual (c .last) body) repeats (λ e. acted-outcome (does (c .device) (getD body 1 0) (getD body 3 0) (dataIn body))))
-      (λ l. turned refusal.Data (omega arith) (λ z. omega arith)))
-      (λ o. turned refusal.Opcode (omega arith) (λ z. omega arith)))
+      (λ s. by-test (statusAllowed (getD body 1 0) (getD body 3 0)) (λ t. named-outcome (namedBy (getD body 1 0)))
       (λ t. turned refusal.Status (omega arith) (λ z. omega arith)))
       (λ s. turned refusal.Source (omega arith) (λ z. omega arith)))
 

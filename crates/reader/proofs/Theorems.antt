@@ -8,13 +8,13 @@ use lib.Dec.{eqb, ltb, leb}
 use lib.ListN.{getD}
 use borrow.Author.Tests.{le-ltb, le-leb, lt-leb, eq-eqb, ne-eqb}
 use Rattle.words.specs.Lists.{pick, both}
-use Rattle.words.specs.Machine.{Done, after, through}
+use Rattle.words.specs.Machine.{Done, after, through, given}
 use Rattle.words.proofs.Lists.{same-refl, never}
 use Rattle.words.proofs.Machine.{through-one}
-use Rattle.packet.specs.Opcodes.{host}
+use Rattle.packet.specs.Opcodes.{host, reader}
 use Rattle.packet.specs.Packet.{bodyOf, bodyIn, dataIn, statusAllowed, resentEqual, isAnswer}
 use Rattle.packet.proofs.Theorems.{data-of}
-use Rattle.packet.specs.Refusals.{numberOf, causeOf}
+use Rattle.packet.specs.Refusals.{numberOf, causeOf, nakBytes}
 use Rattle.packet.specs.declared.Refusal.{Refusal}
 use Rattle.packet.specs.declared.Refusal.the-variants as refusal
 use Rattle.packet.proofs.Marks.{unmarked-of}
@@ -25,9 +25,11 @@ use Rattle.framer.proofs.Outcomes as framer
 use Rattle.framer.proofs.Outcomes.{brings}
 use Rattle.sender.specs.Sender.{Sent, waits, senderStep, heedOf}
 use Rattle.table.proofs.Theorems.{AllAllowed}
-use Rattle.commands.specs.Commands.{DeviceState, isKnown, lengthAllowed, denied, acted, command}
+use Rattle.commands.specs.Commands.{DeviceState, namedBy, lengthAllowed, denied, acted, effect}
+use Rattle.commands.specs.declared.Command.{Command}
+use Rattle.commands.specs.declared.Named.the-variants.{Known}
 use Rattle.commands.proofs.Theorems.{no-answer, does-allowed}
-use Rattle.reader.specs.Reader.{CoreState, ReaderState, Output, refused, repeated, beeped, switched, sent, nakBytes, refusalAnswer, refuses, noPacketStep, answering, answerTo, acts, commandStep, judgedStep, senderHears, packetStep, heardStep, readerStep, answered}
+use Rattle.reader.specs.Reader.{CoreState, ReaderState, Output, refused, repeated, beeped, switched, sent, ifHandshake, refusalAnswer, refuses, noPacketStep, answerTo, acts, commandStep, knownStep, namedStep, judgedStep, senderHears, packetStep, heardStep, readerStep, answered}
 use Rattle.reader.specs.Promises.{toldOf}
 use Rattle.reader.specs.declared.Told.the-variants as told
 use Rattle.reader.proofs.Outcomes.{Outcome, heeds, turns, repeats, acts-on, Happens, nothing, no-packet, packet-heard, packet-outcome, event-happens}
@@ -37,7 +39,7 @@ use Rattle.reader.proofs.Outcomes.{Outcome, heeds, turns, repeats, acts
 -- What is told behind a refusal, and what it leaves of the core.
 pub record Refuses (c : CoreState) (r : Refusal) (xs : List Output) (d : Done CoreState Output) : Type 0 where
   pub core-is : d .next ≡ c
-  pub answer-is : xs ≡ answering (refusalAnswer c r)
+  pub answer-is : xs ≡ given answered (refusalAnswer c r)
   pub answered-by : causeOf r ≡ 0 → ⊥
 
 -- A told list that starts with something else than a refusal starts with no refusal.
@@ -50,11 +52,11 @@ acted-first [] d ys q = never (cc)
 acted-first (row ∷ rows) d ys q = never (cc)
 
 same-refusal : {c : CoreState} {y r : Refusal} {xs : List Output} (late : Bool) → both (leb (numberOf y) 3) (waits (c .sender)) ≡ late → (causeOf y ≡ 0 → ⊥) →
-    refused y ∷ answering (pick late [] (nakBytes (c .device) y)) ≡ refused r ∷ xs → {d : Done CoreState Output} → d .next ≡ c → Refuses c r xs d
+    refused y ∷ given answered (pick late [] (ifHandshake (c .device) (nakBytes reader y))) ≡ refused r ∷ xs → {d : Done CoreState Output} → d .next ≡ c → Refuses c r xs d
 unfolding refusalAnswer
 same-refusal {c} {y} {r} {xs} late l n q e =
     let f : y ≡ r = cc in
-    let g : answering (pick late [] (nakBytes (c .device) y)) ≡ xs = cc in
+    let g : given answered (pick late [] (ifHandshake (c .device) (nakBytes reader y))) ≡ xs = cc in
     rw (← f) (record { core-is = e; answer-is = rw l (sym g); answered-by = n })
 
 packet-refuses : {c : CoreState} {body : List ℕ} {d : Done CoreState Output} {r : Refusal} {xs : List Output} → Outcome c body d → d .told ≡ refused r ∷ xs →
@@ -65,11 +67,11 @@ packet-refuses {c = c} {r = r} (turns {r = y} h n) q =
     let f : y ≡ r = cc in
     (rw (← f) h, same-refusal false (simp (lt-leb (numberOf y) 3 (omega arith))) n q refl)
 packet-refuses (repeats e) q = never (cc)
-packet-refuses (acts-on {next} {rows} k) q = acted-first rows next _ q
+packet-refuses (acts-on k {next} {rows} d) q = acted-first rows next _ q
 
 no-packet-refuses : (c : CoreState) (y : Refusal) {r : Refusal} {xs : List Output} (b : Bool) → waits (c .sender) ≡ b → numberOf y ≤ 3 → (causeOf y ≡ 0 → ⊥) →
     noPacketStep c y .told ≡ refused r ∷ xs → Refuses c r xs (noPacketStep c y)
-unfolding noPacketStep answering
+unfolding noPacketStep given
 no-packet-refuses c y true w h n q = simp w (same-refusal true (simp (le-leb (numberOf y) 3 h, w)) n (simp w at q) refl)
 no-packet-refuses c y false w h n q = simp w (same-refusal false (simp (le-leb (numberOf y) 3 h, w)) n (simp w at q) refl)
 
@@ -131,12 +133,12 @@ module _ (s : ReaderState) (e : Event) {r : Refusal} {xs : List Output} (q : rea
   refusal-cause = happened .answered-by
 
   -- It is answered by the NAK of its cause or not at all, and nothing else is told.
-  pub refusal-answered : xs ≡ answering (refusalAnswer (s .core) r)
+  pub refusal-answered : xs ≡ given answered (refusalAnswer (s .core) r)
   refusal-answered = happened .answer-is
 
 -- What a caller is told by name as a refusal is that refusal with its answer, and nothing else.
 pub refusal-named : (s : ReaderState) (e : Event) {r : Refusal} → toldOf (readerStep s e .told) ≡ told.Refused r →
-    readerStep s e .told ≡ refused r ∷ answering (refusalAnswer (s .core) r)
+    readerStep s e .told ≡ refused r ∷ given answered (refusalAnswer (s .core) r)
 refusal-named s e {r} q =
     let p = named-first (readerStep s e .told) q in
     p .is ∙ ap (λ (xs : List Output). refused r ∷ xs) (refusal-answered s e (p .is))
@@ -144,10 +146,10 @@ refusal-named s e {r} q =
 -- ---- commands that 4 to 7 let through
 
 -- Source, status, opcode and data length are right.
-pub record Rightful (o t : ℕ) (d : List ℕ) : Type 0 where
+pub record Rightful (o t : ℕ) (d : List ℕ) (k : Command) : Type 0 where
   pub status : statusAllowed o t ≡ true
-  pub known : isKnown o ≡ true
-  pub fits : lengthAllowed o d ≡ true
+  pub named : namedBy o ≡ Known k
+  pub fits : lengthAllowed k d ≡ true
 
 -- A command as the host sends it.
 abbrev pub commandBody : ℕ → ℕ → List ℕ → List ℕ
@@ -166,46 +168,46 @@ marked-bit : (o t : ℕ) (d : List ℕ) → t % 2 ≡ 0 → eqb (getD (commandBo
 unfolding bodyOf
 marked-bit o t d plain = eq-eqb ((t + 1) % 2) 1 (omega arith)
 
-module _ (c : CoreState) (o t : ℕ) (d : List ℕ) where
+module _ (c : CoreState) (o t : ℕ) (d : List ℕ) (k : Command) where
   -- Such a packet is a resent equal or is acted on.
-  pub rightful-step : Rightful o t d → packetStep c (commandBody o t d) ≡ commandStep c (commandBody o t d)
-  unfolding packetStep judgedStep bodyOf
-  rightful-step k = simp (no-answer o (k .known), k .status, k .known, data-of o host t d, k .fits)
+  pub rightful-step : Rightful o t d k → packetStep c (commandBody o t d) ≡ commandStep k c (commandBody o t d)
+  unfolding packetStep judgedStep namedStep knownStep bodyOf
+  rightful-step r = simp (no-answer o (r .named), r .status, r .named, data-of o host t d, r .fits)
 
   -- What has no mark is no repeat.
-  new-command : t % 2 ≡ 0 → commandStep c (commandBody o t d) ≡ acts c (commandBody o t d) (command (c .device) o t d)
+  new-command : t % 2 ≡ 0 → commandStep k c (commandBody o t d) ≡ acts c k (commandBody o t d) (effect (c .device) k t d)
   unfolding commandStep resentEqual bodyOf
   new-command plain = simp (ne-eqb (t % 2) 1 (λ z. omega arith), data-of o host t d)
 
-  module _ (k : Rightful o t d) (plain : t % 2 ≡ 0) where
+  module _ (r : Rightful o t d k) (plain : t % 2 ≡ 0) where
     -- Without its mark it is acted on once, and is then the last accepted packet, with the answer it had.
-    pub acted-on : {next : DeviceState} {rows : List (List ℕ)} → command (c .device) o t d ≡ acted next rows →
+    pub acted-on : {next : DeviceState} {rows : List (List ℕ)} → effect (c .device) k t d ≡ acted next rows →
         packetStep c (commandBody o t d)
         ≡ record {
-          next = record { device = next; last = commandBody o t d; lastAnswer = answerTo (c .device) o d; sender = c .sender };
-          told = map beeped rows ++ (switched next ∷ answering (answerTo (c .device) o d));
+          next = record { device = next; last = commandBody o t d; lastAnswer = answerTo (c .device) k d; sender = c .sender };
+          told = map beeped rows ++ (switched next ∷ given answered (answerTo (c .device) k d));
         }
     unfolding acts bodyOf
-    acted-on e = rightful-step k ∙ (new-command plain ∙ simp (e, unmarked-of o host t t d plain refl, data-of o host t d))
+    acted-on e = rightful-step r ∙ (new-command plain ∙ simp (e, unmarked-of o host t t d plain refl, data-of o host t d))
 
     -- Denied, it changes nothing and is answered by NAK.
-    pub denied-by : {r : Refusal} → command (c .device) o t d ≡ denied r → packetStep c (commandBody o t d) ≡ refuses c r
+    pub denied-by : {x : Refusal} → effect (c .device) k t d ≡ denied x → packetStep c (commandBody o t d) ≡ refuses c x
     unfolding acts
-    denied-by e = rightful-step k ∙ (new-command plain ∙ simp e)
+    denied-by e = rightful-step r ∙ (new-command plain ∙ simp e)
 
 -- Its marked copy is answered with the same bytes as then, or none if it had none, and nothing is acted on.
-pub answered-again : (c : CoreState) (o t : ℕ) (d : List ℕ) → Rightful o t d → t % 2 ≡ 0 → c .last ≡ commandBody o t d →
-    packetStep c (commandBody o (t + 1) d) ≡ record { next = c; told = repeated ∷ answering (c .lastAnswer) }
+pub answered-again : (c : CoreState) (o t : ℕ) (d : List ℕ) (k : Command) → Rightful o t d k → t % 2 ≡ 0 → c .last ≡ commandBody o t d →
+    packetStep c (commandBody o (t + 1) d) ≡ record { next = c; told = repeated ∷ given answered (c .lastAnswer) }
 unfolding commandStep resentEqual
-answered-again c o t d k plain e =
-    let right : Rightful o (t + 1) d = record { status = marked-allowed o t plain (k .status); known = k .known; fits = k .fits } in
-    rightful-step c o (t + 1) d right ∙ simp (e, marked-bit o t d plain, unmarked-of o host t (t + 1) d plain (omega arith), same-refl (commandBody o t d))
+answered-again c o t d k r plain e =
+    let right : Rightful o (t + 1) d k = record { status = marked-allowed o t plain (r .status); named = r .named; fits = r .fits } in
+    rightful-step c o (t + 1) d k right ∙ simp (e, marked-bit o t d plain, unmarked-of o host t (t + 1) d plain (omega arith), same-refl (commandBody o t d))
 
 -- ---- ACK and NAK
 
 -- CMD_ACK and CMD_NAK go to the sender, right or wrong: nothing is refused or answered, and the device and the last accepted packet stay.
 pub answers-heeded : (c : CoreState) (body : List ℕ) → isAnswer (getD body 1 0) ≡ true →
-    packetStep c body ≡ senderHears c (senderStep (c .sender) (heedOf (getD body 1 0) (getD body 2 0) (getD body 3 0) (dataIn body)))
+    packetStep c body ≡ senderHears c (senderStep (c .sender) (heedOf host (getD body 1 0) (getD body 2 0) (getD body 3 0) (dataIn body)))
 unfolding packetStep
 answers-heeded c body e = simp e
 
@@ -216,7 +218,7 @@ unfolding senderHears acts
 outcome-allowed (heeds d) k = k
 outcome-allowed (turns h n) k = k
 outcome-allowed (repeats e) k = k
-outcome-allowed (acts-on does) k = does-allowed does k
+outcome-allowed (acts-on c does) k = does-allowed does k
 
 no-packet-allowed : (c : CoreState) (r : Refusal) (b : Bool) → waits (c .sender) ≡ b → AllAllowed (c .device .values) → AllAllowed (noPacketStep c r .next .device .values)
 unfolding noPacketStep

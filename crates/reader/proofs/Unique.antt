@@ -3,23 +3,18 @@ use Prim.Native.Nat.{ℕ}
 use mathlib.Core.Path.{_≡_, sym, ap, _∙_}
 use mathlib.Core.List.{List}
 use Rattle.framer.specs.declared.Event.{Event}
-use Rattle.sender.specs.declared.Sending.{Sending}
 use Rattle.sender.proofs.Unique as sending
 use Rattle.table.specs.declared.Table.{Table}
-use Rattle.reader.specs.Promises.{SwitchedOn, PowersUp, withSender, Starts, TimesOut, Hears}
+use Rattle.reader.specs.Promises.{SwitchedOn, PowersUp, startedOf, Starts, TimesOut, Hears}
 use Rattle.reader.specs.declared.Reader.{Reader}
 use Rattle.reader.specs.declared.Started.{Started}
-use Rattle.reader.specs.declared.Answered.{Answered}
+use Rattle.reader.specs.declared.Taken.{Taken}
 
 pub switched-on-unique : {t : Table} {r r′ : Reader} → SwitchedOn t r → SwitchedOn t r′ → r ≡ r′
 switched-on-unique p q = p .is ∙ sym (q .is)
 
 pub power-up-unique : {reader r r′ : Reader} → PowersUp reader r → PowersUp reader r′ → r ≡ r′
 power-up-unique p q = p .is ∙ sym (q .is)
-
--- What the sender gives back is what the reader does.
-abbrev startedOf : Reader → Sending → Started
-startedOf reader s = record { reader = withSender reader (s .sender); outcome = s .outcome }
 
 pub start-unique : {reader : Reader} {message copy bytes message₁ copy₁ message₂ copy₂ : List ℕ} {code : ℕ} {r r′ : Started} →
     Starts reader message copy code bytes r message₁ copy₁ → Starts reader message copy code bytes r′ message₂ copy₂ →
@@ -34,7 +29,7 @@ time-out-unique {reader} p q =
     let s = sending.hear-unique (p .hears) (q .hears) in
     (p .is ∙ (ap (startedOf reader) (s .0) ∙ sym (q .is)), s .1)
 
-pub hear-unique : {reader : Reader} {line answers message answer copy line₁ answers₁ answer₁ copy₁ line₂ answers₂ answer₂ copy₂ : List ℕ} {e : Event} {r r′ : Answered} →
+pub hear-unique : {reader : Reader} {line answers message answer copy line₁ answers₁ answer₁ copy₁ line₂ answers₂ answer₂ copy₂ : List ℕ} {e : Event} {r r′ : Taken} →
     Hears reader line answers message answer copy e r line₁ answers₁ answer₁ copy₁ →
     Hears reader line answers message answer copy e r′ line₂ answers₂ answer₂ copy₂ →
     (r ≡ r′) × (line₁ ≡ line₂) × (answers₁ ≡ answers₂) × (answer₁ ≡ answer₂) × (copy₁ ≡ copy₂)

@@ -7,8 +7,9 @@ use lib.Dec.{ltb, leb}
 use lib.ListN.{length, getD, take, drop}
 use Rattle.words.specs.Lists.{pick, either, over}
 use Rattle.words.specs.Machine.{Done}
-use Rattle.packet.specs.Opcodes.{reader, paramSend}
+use Rattle.packet.specs.Opcodes.{host, reader, paramSend}
 use Rattle.packet.specs.Packet.{bodyOf, seal, dataIn, unmarked, isAnswer}
+use Rattle.packet.specs.Sizes.{headSize, checksumSize, packetSize}
 use Rattle.packet.specs.declared.Refusal.the-variants as refusal
 use Rattle.framer.specs.Framer as Line
 use Rattle.framer.specs.Framer.{packet, refused as noPacket, framerStep}
@@ -25,18 +26,19 @@ use Rattle.sender.specs.declared.Sending.{Sending}
 use Rattle.table.specs.Table.{Values, powerUp}
 use Rattle.table.specs.Promises.{valuesOf}
 use Rattle.table.specs.declared.Table.{Table}
-use Rattle.commands.specs.Commands.{fresh, isKnown, lengthAllowed, judged}
+use Rattle.commands.specs.Commands.{fresh, judged}
 use Rattle.commands.specs.Promises.{beepOf, deviceOf, deviceFrom}
+use Rattle.commands.specs.declared.Command.{Command}
 use Rattle.commands.specs.declared.Beep.{Beep}
 use Rattle.commands.specs.declared.Beep.the-variants as beep
 use Rattle.commands.specs.declared.Device.{Device}
-use Rattle.reader.specs.Reader.{CoreState, ReaderState, Output, refused, repeated, beeped, switched, answered, sent, handshake, answering, refuses, answerTo, acts, packetStep, senderHears, readerStep}
+use Rattle.reader.specs.Reader.{CoreState, ReaderState, Output, refused, repeated, beeped, switched, answered, sent, readerAnswerSize, handshake, answerTo, acts, packetStep, senderHears, readerStep}
 use Rattle.reader.specs.declared.Told.{Told}
 use Rattle.reader.specs.declared.Told.the-variants as told
 use Rattle.reader.specs.declared.Core.{Core}
 use Rattle.reader.specs.declared.Stepped.{Stepped}
 use Rattle.reader.specs.declared.Reader.{Reader}
-use Rattle.reader.specs.declared.Answered.{Answered}
+use Rattle.reader.specs.declared.Taken.{Taken}
 use Rattle.reader.specs.declared.Started.{Started}
 
 -- ---- the answers that are enums
@@ -72,14 +74,14 @@ sentOf (sent x ∷ xs) = x ∷ sentOf xs
 -- ---- what control value and buffers stand for
 
 -- Any control value is taken: an answer longer than the buffer is none.
-unfoldable pub answeredOf : ℕ → ℕ
-answeredOf n = pick (leb n 25) n 0
+unfoldable pub lastAnswerOf : ℕ → ℕ
+lastAnswerOf n = pick (leb n readerAnswerSize) n 0
 
 abbrev pub soundCore : Reader → Core
-soundCore r = record { answered = answeredOf (r .answered); device = r .device; sender = r .sender }
+soundCore r = record { «last_answer» = lastAnswerOf (r .«last_answer»); device = r .device; sender = r .sender }
 
 unfoldable pub coreOf : Core → List ℕ → List ℕ → List ℕ → CoreState
-coreOf c last answers message = record { device = deviceOf (c .device); last = unmarked last; lastAnswer = take (c .answered) answers; sender = sending.stateOf (c .sender) message }
+coreOf c last answers message = record { device = deviceOf (c .device); last = unmarked last; lastAnswer = take (c .«last_answer») answers; sender = sending.stateOf (c .sender) message }
 
 unfoldable pub stateOf : Reader → List ℕ → List ℕ → List ℕ → ReaderState
 stateOf r line answers message = record { line = lineIn (r .line) line; core = coreOf (soundCore r) (keptIn (r .line) line) answers message }
@@ -101,21 +103,21 @@ unfoldable pub senderHearing : Sender → List ℕ → Heard → Sender
 senderHearing s message h = sending.controlAfter (sending.soundOf s) h (senderStep (sending.stateOf s message) h)
 
 abbrev pub heeded : List ℕ → Heard
-heeded body = heedOf (getD body 1 0) (getD body 2 0) (getD body 3 0) (dataIn body)
+heeded body = heedOf host (getD body 1 0) (getD body 2 0) (getD body 3 0) (dataIn body)
 
 unfoldable pub senderAfter : Sender → List ℕ → List ℕ → Sender
 senderAfter s message body = pick (isAnswer (getD body 1 0)) (senderHearing s message (heeded body)) s
 
 abbrev pub coreAfter : Done CoreState Output → Sender → Core
-coreAfter d s = record { answered = length (d .next .lastAnswer); device = deviceFrom (d .next .device); sender = s }
+coreAfter d s = record { «last_answer» = length (d .next .lastAnswer); device = deviceFrom (d .next .device); sender = s }
 
 abbrev pub readerOf : Halves → Core → Reader
-readerOf h c = record { line = h; answered = c .answered; device = c .device; sender = c .sender }
+readerOf h c = record { line = h; «last_answer» = c .«last_answer»; device = c .device; sender = c .sender }
 
 -- ---- promises
 
 abbrev pub onControl : Values → Reader
-onControl v = record { line = idleHalves; answered = 0; device = deviceFrom (fresh v); sender = sending.idleControl false }
+onControl v = record { line = idleHalves; «last_answer» = 0; device = deviceFrom (fresh v); sender = sending.idleControl false }
 
 pub record SwitchedOn (t : Table) (r : Reader) : Type 0 where
   pub is : r ≡ onControl (powerUp (valuesOf t))
@@ -123,9 +125,9 @@ pub record SwitchedOn (t : Table) (r : Reader) : Type 0 where
 pub record PowersUp (reader r : Reader) : Type 0 where
   pub is : r ≡ onControl (powerUp (valuesOf (reader .device .table)))
 
--- Number 13 is tested first, and the event is then not taken: 25 bytes for answers, 257 for copies.
+-- Number 13 is tested first, and the event is then not taken: room for the longest answer, and for a packet.
 unfoldable pub tooSmall : List ℕ → List ℕ → Bool
-tooSmall answer copy = either (ltb (length answer) 25) (ltb (length copy) 257)
+tooSmall answer copy = either (ltb (length answer) readerAnswerSize) (ltb (length copy) packetSize)
 
 -- What a step d of the core leaves: what is told, the control value with the sender s′, and every buffer.
 pub record Steps (d : Done CoreState Output) (s′ : Sender) (answers answer copy : List ℕ) (r : Stepped) (answers′ answer′ copy′ : List ℕ) : Type 0 where
@@ -147,12 +149,12 @@ unfoldable pub controlAfter : Reader → List ℕ → List ℕ → Event → Don
 controlAfter reader line message e d =
     record {
       line = pick (accepts (d .told)) (acceptedOf (listenedOf (reader .line) line e .halves) (length (d .next .core .last))) (listenedOf (reader .line) line e .halves);
-      answered = length (d .next .core .lastAnswer);
+      «last_answer» = length (d .next .core .lastAnswer);
       device = deviceFrom (d .next .core .device);
       sender = senderThrough (reader .sender) message (framerStep (lineIn (reader .line) line) e .told);
     }
 
-pub record Hears (reader : Reader) (line answers message answer copy : List ℕ) (e : Event) (r : Answered) (line′ answers′ answer′ copy′ : List ℕ) : Type 0 where
+pub record Hears (reader : Reader) (line answers message answer copy : List ℕ) (e : Event) (r : Taken) (line′ answers′ answer′ copy′ : List ℕ) : Type 0 where
   pub is :
       r
       ≡ pick (tooSmall answer copy) (record { reader = reader; told = told.Refused refusal.Room; answer = 0; outcome = outcome.Nothing })
@@ -170,27 +172,30 @@ pub record Hears (reader : Reader) (line answers message answer copy : List ℕ)
 
 -- A start and a time-out are the sender's; nothing else of the reader changes.
 abbrev pub withSender : Reader → Sender → Reader
-withSender reader s = record { line = reader .line; answered = reader .answered; device = reader .device; sender = s }
+withSender reader s = record { line = reader .line; «last_answer» = reader .«last_answer»; device = reader .device; sender = s }
+
+abbrev pub startedOf : Reader → Sending → Started
+startedOf reader s = record { reader = withSender reader (s .sender); outcome = s .outcome }
 
 pub record Starts (reader : Reader) (message copy : List ℕ) (code : ℕ) (bytes : List ℕ) (r : Started) (message′ copy′ : List ℕ) : Type 0 where
   pub sending′ : Sending
   pub starts : sending.Starts (reader .sender) message copy code bytes sending′ message′ copy′
-  pub is : r ≡ record { reader = withSender reader (sending′ .sender); outcome = sending′ .outcome }
+  pub is : r ≡ startedOf reader sending′
 
 pub record TimesOut (reader : Reader) (message copy : List ℕ) (r : Started) (copy′ : List ℕ) : Type 0 where
   pub sending′ : Sending
   pub hears : sending.Hears (reader .sender) message copy TimeOut sending′ copy′
-  pub is : r ≡ record { reader = withSender reader (sending′ .sender); outcome = sending′ .outcome }
+  pub is : r ≡ startedOf reader sending′
 
 -- ---- the functions inside, each against its own level of the definition
 
-pub record NoRoom (reader : Reader) (r : Answered) : Type 0 where
+pub record NoRoom (reader : Reader) (r : Taken) : Type 0 where
   pub is : r ≡ record { reader = reader; told = told.Refused refusal.Room; answer = 0; outcome = outcome.Nothing }
 
 pub record SoundCore (reader : Reader) (answers : List ℕ) (r : Core) : Type 0 where
   pub is : r ≡ soundCore reader
-  pub long : length answers ≡ 25
-  pub few : r .answered ≤ length answers
+  pub long : length answers ≡ readerAnswerSize
+  pub few : r .«last_answer» ≤ length answers
 
 pub record Handshake (d : Device) (r : Bool) : Type 0 where
   pub is : r ≡ handshake (deviceOf d)
@@ -198,13 +203,27 @@ pub record Handshake (d : Device) (r : Bool) : Type 0 where
 -- So many bytes, and these at the front of the answer room.
 pub record Writes (bytes answer : List ℕ) (r : ℕ) (answer′ : List ℕ) : Type 0 where
   pub is : r ≡ length bytes
-  pub most : r ≤ 25
+  pub most : r ≤ readerAnswerSize
   pub answer-is : answer′ ≡ over bytes answer
 
-pub record Quiet (c : Core) (r : Stepped) : Type 0 where
-  pub is : r ≡ record { core = c; told = told.Nothing; answer = 0; outcome = outcome.Nothing }
+pub record CoreWith (answer : ℕ) (d : Device) (s : Sender) (r : Core) : Type 0 where
+  pub is : r ≡ record { «last_answer» = answer; device = d; sender = s }
 
-pub record Joined (h : Halves) (s : Stepped) (r : Answered) : Type 0 where
+pub record ReaderOf (h : Halves) (c : Core) (r : Reader) : Type 0 where
+  pub is : r ≡ readerOf h c
+
+-- A step that the sender has no part in.
+abbrev pub stepOf : Core → Told → ℕ → Stepped
+stepOf c t n = record { core = c; told = t; answer = n; outcome = outcome.Nothing }
+
+pub record StepOf (c : Core) (t : Told) (n : ℕ) (r : Stepped) : Type 0 where
+  pub is : r ≡ stepOf c t n
+
+-- What the sender did; nothing else of the reader changes.
+pub record SentBy (reader : Reader) (s : Sending) (r : Started) : Type 0 where
+  pub is : r ≡ startedOf reader s
+
+pub record Joined (h : Halves) (s : Stepped) (r : Taken) : Type 0 where
   pub is : r ≡ record { reader = readerOf h (s .core); told = s .told; answer = s .answer; outcome = s .outcome }
 
 pub record Accepts (t : Told) (r : Bool) : Type 0 where
@@ -212,59 +231,43 @@ pub record Accepts (t : Told) (r : Bool) : Type 0 where
 
 -- The data, count bytes, already stands in the room from the fifth byte on.
 pub record Filled (count : ℕ) (answer : List ℕ) (r : ℕ) (answer′ : List ℕ) : Type 0 where
-  pub is : r ≡ count + 6
-  pub answer-is : answer′ ≡ over (seal (bodyOf paramSend reader 0 (take count (drop 4 answer)))) answer
+  pub is : r ≡ headSize + count + checksumSize
+  pub answer-is : answer′ ≡ over (seal (bodyOf paramSend reader 0 (take count (drop headSize answer)))) answer
 
 -- A step that looks at device and sender alone, and leaves the kept answer and the copy room as they are.
 pub record Leaves (step : CoreState → Done CoreState Output) (c : Core) (answer : List ℕ) (r : Stepped) (answer′ : List ℕ) : Type 0 where
-  pub steps : (last answers message copy : List ℕ) → c .answered ≤ length answers → Steps (step (coreOf c last answers message)) (c .sender) answers answer copy r answers answer′ copy
+  pub steps : (last answers message copy : List ℕ) → c .«last_answer» ≤ length answers → Steps (step (coreOf c last answers message)) (c .sender) answers answer copy r answers answer′ copy
 
 -- A step on a command's body: the copy room and the sender's message are not looked at.
 pub record Judges (step : CoreState → List ℕ → Done CoreState Output) (c : Core) (body last answers answer : List ℕ) (r : Stepped) (answers′ answer′ : List ℕ) : Type 0 where
   pub steps : (message copy : List ℕ) → Steps (step (coreOf c last answers message) body) (c .sender) answers answer copy r answers′ answer′ copy
 
--- `judgedStep` behind 4 and 5, on each side of the resend test. A resent equal: 6 and 7, then the same answer.
-abbrev pub repeatStep : ℕ → List ℕ → CoreState → Done CoreState Output
-repeatStep opcode carried c =
-    pick (isKnown opcode) (pick (lengthAllowed opcode carried) (record { next = c; told = repeated ∷ answering (c .lastAnswer) }) (refuses c refusal.Data)) (refuses c refusal.Opcode)
-
--- Any other command: 6 to 9, or acted on.
-abbrev pub performStep : ℕ → ℕ → List ℕ → CoreState → List ℕ → Done CoreState Output
-performStep opcode status carried c body = acts c body (judged (c .device) opcode status carried)
-
-pub record Repeats (c : Core) (opcode : ℕ) (carried answers answer : List ℕ) (r : Stepped) (answer′ : List ℕ) : Type 0 where
-  pub steps : (last message copy : List ℕ) → Steps (repeatStep opcode carried (coreOf c last answers message)) (c .sender) answers answer copy r answers answer′ copy
-
-pub record Performs (c : Core) (opcode status : ℕ) (carried answers answer : List ℕ) (r : Stepped) (answers′ answer′ : List ℕ) : Type 0 where
+-- A command that is no resent equal: 7 to 9 by its verdict, or it is acted on.
+pub record Performs (c : Core) (k : Command) (status : ℕ) (carried answers answer : List ℕ) (r : Stepped) (answers′ answer′ : List ℕ) : Type 0 where
   pub steps :
       (body last message copy : List ℕ) →
-      opcode ≡ getD body 1 0 →
       carried ≡ dataIn body →
-      Steps (performStep opcode status carried (coreOf c last answers message) body) (c .sender) answers answer copy r answers′ answer′ copy
+      Steps (acts (coreOf c last answers message) k body (judged (deviceOf (c .device)) k status carried)) (c .sender) answers answer copy r answers′ answer′ copy
 
 pub record ToSender (c : Core) (body message copy : List ℕ) (r : Stepped) (copy′ : List ℕ) : Type 0 where
   pub steps :
       (last answers answer : List ℕ) →
-      c .answered ≤ length answers →
+      c .«last_answer» ≤ length answers →
       Steps (senderHears (coreOf c last answers message) (senderStep (sending.stateOf (c .sender) message) (heeded body))) (senderHearing (c .sender) message (heeded body)) answers answer copy r answers answer copy′
 
 pub record Again (c : Core) (answers answer : List ℕ) (r : Stepped) (answer′ : List ℕ) : Type 0 where
-  pub is : r ≡ record { core = c; told = told.Repeated; answer = c .answered; outcome = outcome.Nothing }
-  pub answer-is : answer′ ≡ over (take (c .answered) answers) answer
+  pub is : r ≡ stepOf c told.Repeated (c .«last_answer»)
+  pub answer-is : answer′ ≡ over (take (c .«last_answer») answers) answer
 
-pub record Acts (c : Core) (next : Device) (b : Beep) (opcode : ℕ) (carried answers answer : List ℕ) (r : Stepped) (answers′ answer′ : List ℕ) : Type 0 where
+pub record Acts (c : Core) (next : Device) (b : Beep) (k : Command) (carried answers answer : List ℕ) (r : Stepped) (answers′ answer′ : List ℕ) : Type 0 where
   pub is :
       r
-      ≡ record {
-        core = record { answered = length (answerTo (deviceOf (c .device)) opcode carried); device = next; sender = c .sender };
-        told = told.Acted b;
-        answer = length (answerTo (deviceOf (c .device)) opcode carried);
-        outcome = outcome.Nothing;
-      }
-  pub answers-is : answers′ ≡ over (answerTo (deviceOf (c .device)) opcode carried) answers
-  pub answer-is : answer′ ≡ over (answerTo (deviceOf (c .device)) opcode carried) answer
+      ≡ stepOf (record { «last_answer» = length (answerTo (deviceOf (c .device)) k carried); device = next; sender = c .sender }) (told.Acted b)
+      (length (answerTo (deviceOf (c .device)) k carried))
+  pub answers-is : answers′ ≡ over (answerTo (deviceOf (c .device)) k carried) answers
+  pub answer-is : answer′ ≡ over (answerTo (deviceOf (c .device)) k carried) answer
 
-pub record Settles (h : Halves) (n : ℕ) (s : Stepped) (r : Answered) : Type 0 where
+pub record Settles (h : Halves) (n : ℕ) (s : Stepped) (r : Taken) : Type 0 where
   pub is :
       r
       ≡ record {
@@ -275,7 +278,7 @@ pub record Settles (h : Halves) (n : ℕ) (s : Stepped) (r : Answered) : Type 0 
       }
 
 -- A packet of n bytes in the half that receives.
-pub record Receives (h : Halves) (c : Core) (n : ℕ) (line answers message answer copy : List ℕ) (r : Answered) (answers′ answer′ copy′ : List ℕ) : Type 0 where
+pub record Receives (h : Halves) (c : Core) (n : ℕ) (line answers message answer copy : List ℕ) (r : Taken) (answers′ answer′ copy′ : List ℕ) : Type 0 where
   pub stepped : Stepped
   pub steps :
       Steps (packetStep (coreOf c (keptIn h line) answers message) (receivedIn h line n)) (senderAfter (c .sender) message (receivedIn h line n)) answers answer copy stepped answers′ answer′ copy′

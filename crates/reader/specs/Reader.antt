@@ -1,25 +1,30 @@
--- Document 01, the reader's whole end: framer, command side and sender.
-use Prim.Native.Nat.{ℕ}
-use mathlib.Core.Bool.{Bool, false}
+-- §6, §7, §10 and §11: the reader's whole end: framer, command side and sender.
+use Prim.Native.Nat.{ℕ, _+_}
+use mathlib.Core.Bool.{Bool, true, false}
 use mathlib.Core.List.{List, [], _∷_, _++_, map}
 use lib.Dec.{eqb, leb}
 use lib.ListN.{getD}
 use Rattle.words.specs.Lists.{pick, both}
-use Rattle.words.specs.Machine.{Done}
-use Rattle.packet.specs.Opcodes.{host, reader, paramSend, paramRequest}
+use Rattle.words.specs.Machine.{Done, given}
+use Rattle.packet.specs.Opcodes.{host, reader, paramSend}
 use Rattle.packet.specs.Packet.{bodyOf, seal, dataIn, statusAllowed, replyBody, unmarked, resentEqual, isAnswer}
-use Rattle.packet.specs.Refusals.{numberOf, causeOf}
+use Rattle.packet.specs.Refusals.{numberOf, nakBytes}
+use Rattle.packet.specs.Sizes.{headSize, checksumSize}
 use Rattle.packet.specs.declared.Refusal.{Refusal}
 use Rattle.packet.specs.declared.Refusal.the-variants.{Source, Status, Opcode, Data}
-use Rattle.packet.specs.declared.Reply.{Reply}
-use Rattle.packet.specs.declared.Reply.the-variants.{Ack, Nak}
+use Rattle.packet.specs.declared.Reply.the-variants.{Ack}
 use Rattle.framer.specs.Framer.{hearing, Heard, packet, refused as noPacket}
 use Rattle.framer.specs.Behind.{Behind, framed}
 use Rattle.framer.specs.declared.Event.{Event}
 use Rattle.sender.specs.Sender.{SenderState, nothingOut, waits, Sent, startStep, senderStep, heedOf}
 use Rattle.sender.specs.declared.Heard.the-variants.{TimeOut}
+use Rattle.table.specs.Rows.{pairsSize}
 use Rattle.table.specs.Table.{Values, powerUp, valueOf, answerData}
-use Rattle.commands.specs.Commands.{DeviceState, fresh, isKnown, lengthAllowed, Acted, denied, acted, command}
+use Rattle.commands.specs.Commands.{DeviceState, fresh, namedBy, lengthAllowed, Acted, denied, acted, effect}
+use Rattle.commands.specs.declared.Command.{Command}
+use Rattle.commands.specs.declared.Command.the-variants.{ParamSend, ParamRequest, ParamDefaults, StartSession, StopSession, Beep, LedOn, LedOff, ScanEnable, ScanDisable, AimOn, AimOff}
+use Rattle.commands.specs.declared.Named.{Named}
+use Rattle.commands.specs.declared.Named.the-variants.{Unknown, Known}
 
 -- The device, the last accepted packet's body without its mark (no bytes: none) with the answer it had, and the sender.
 pub record CoreState : Type 0 where
@@ -40,25 +45,20 @@ pub data Output : Type 0 where
   answered : List ℕ → Output
   sent : Sent → Output
 
--- An answer of no bytes does not go out.
-unfoldable pub answering : List ℕ → List Output
-answering [] = []
-answering (b ∷ bs) = answered (b ∷ bs) ∷ []
+-- The longest answer of a reader: a PARAM_SEND with all parameters.
+abbrev pub readerAnswerSize : ℕ
+readerAnswerSize = headSize + pairsSize + checksumSize
 
 -- 9Fh is 1.
 unfoldable pub handshake : DeviceState → Bool
 handshake d = eqb (valueOf (d .values) 0x9F) 1
 
 -- ACK and NAK go out only if 9Fh was 1 before the packet.
-unfoldable pub replyBytes : DeviceState → Reply → List ℕ
-replyBytes d reply = pick (handshake d) (seal (replyBody reader reply)) []
-
--- The NAK of a refusal that document 01 answers, 1 to 9 at a reader.
-abbrev pub nakBytes : DeviceState → Refusal → List ℕ
-nakBytes d r = replyBytes d (Nak (causeOf r))
+unfoldable pub ifHandshake : DeviceState → List ℕ → List ℕ
+ifHandshake d bytes = pick (handshake d) bytes []
 
 abbrev pub refuses : CoreState → Refusal → Done CoreState Output
-refuses c r = record { next = c; told = refused r ∷ answering (nakBytes (c .device) r) }
+refuses c r = record { next = c; told = refused r ∷ given answered (ifHandshake (c .device) (nakBytes reader r)) }
 
 -- A reader whose sender waits for an answer sends nothing for refusals 1 to 3.
 unfoldable pub noPacketStep : CoreState → Refusal → Done CoreState Output
@@ -68,31 +68,51 @@ noPacketStep c r = pick (waits (c .sender)) (record { next = c; told = refused r
 unfoldable pub requestBytes : Values → List ℕ → List ℕ
 requestBytes v asked = seal (bodyOf paramSend reader 0 (answerData v asked))
 
-unfoldable pub answerTo : DeviceState → ℕ → List ℕ → List ℕ
-answerTo d opcode carried = pick (eqb opcode paramRequest) (requestBytes (d .values) carried) (replyBytes d Ack)
+unfoldable pub isRequest : Command → Bool
+isRequest ParamSend = false
+isRequest ParamRequest = true
+isRequest ParamDefaults = false
+isRequest StartSession = false
+isRequest StopSession = false
+isRequest Beep = false
+isRequest LedOn = false
+isRequest LedOff = false
+isRequest ScanEnable = false
+isRequest ScanDisable = false
+isRequest AimOn = false
+isRequest AimOff = false
+
+unfoldable pub answerTo : DeviceState → Command → List ℕ → List ℕ
+answerTo d k carried = pick (isRequest k) (requestBytes (d .values) carried) (ifHandshake d (seal (replyBody reader Ack)))
 
 -- Acted on: the packet is now the last accepted one.
-unfoldable pub acts : CoreState → List ℕ → Acted → Done CoreState Output
-acts c body (denied r) = refuses c r
-acts c body (acted d rows) =
+unfoldable pub acts : CoreState → Command → List ℕ → Acted → Done CoreState Output
+acts c k body (denied r) = refuses c r
+acts c k body (acted d rows) =
     record {
-      next = record { device = d; last = unmarked body; lastAnswer = answerTo (c .device) (getD body 1 0) (dataIn body); sender = c .sender };
-      told = map beeped rows ++ (switched d ∷ answering (answerTo (c .device) (getD body 1 0) (dataIn body)));
+      next = record { device = d; last = unmarked body; lastAnswer = answerTo (c .device) k (dataIn body); sender = c .sender };
+      told = map beeped rows ++ (switched d ∷ given answered (answerTo (c .device) k (dataIn body)));
     }
 
--- A packet with the resend mark, equal to the last accepted one apart from that mark, is answered with the same bytes and not acted on.
-unfoldable pub commandStep : CoreState → List ℕ → Done CoreState Output
-commandStep c body =
-    pick (resentEqual (c .last) body) (record { next = c; told = repeated ∷ answering (c .lastAnswer) })
-    (acts c body (command (c .device) (getD body 1 0) (getD body 3 0) (dataIn body)))
+-- A packet with the resend mark, equal to the last accepted one apart from that mark, is answered with the same bytes and not acted on;
+-- any other is acted on, or denied by 8 or 9.
+unfoldable pub commandStep : Command → CoreState → List ℕ → Done CoreState Output
+commandStep k c body =
+    pick (resentEqual (c .last) body) (record { next = c; told = repeated ∷ given answered (c .lastAnswer) })
+    (acts c k body (effect (c .device) k (getD body 3 0) (dataIn body)))
 
 -- 4 to 7 in rising order, then the command.
+unfoldable pub knownStep : Command → CoreState → List ℕ → Done CoreState Output
+knownStep k c body = pick (lengthAllowed k (dataIn body)) (commandStep k c body) (refuses c Data)
+
+unfoldable pub namedStep : Named → CoreState → List ℕ → Done CoreState Output
+namedStep Unknown c body = refuses c Opcode
+namedStep (Known k) c body = knownStep k c body
+
 unfoldable pub judgedStep : CoreState → List ℕ → Done CoreState Output
 judgedStep c body =
     pick (eqb (getD body 2 0) host)
-    (pick (statusAllowed (getD body 1 0) (getD body 3 0))
-    (pick (isKnown (getD body 1 0)) (pick (lengthAllowed (getD body 1 0) (dataIn body)) (commandStep c body) (refuses c Data)) (refuses c Opcode))
-    (refuses c Status))
+    (pick (statusAllowed (getD body 1 0) (getD body 3 0)) (namedStep (namedBy (getD body 1 0)) c body) (refuses c Status))
     (refuses c Source)
 
 -- CMD_ACK and CMD_NAK go to the sender and are never refused.
@@ -102,7 +122,7 @@ senderHears c d = record { next = record { device = c .device; last = c .last; l
 unfoldable pub packetStep : CoreState → List ℕ → Done CoreState Output
 packetStep c body =
     pick (isAnswer (getD body 1 0))
-    (senderHears c (senderStep (c .sender) (heedOf (getD body 1 0) (getD body 2 0) (getD body 3 0) (dataIn body))))
+    (senderHears c (senderStep (c .sender) (heedOf host (getD body 1 0) (getD body 2 0) (getD body 3 0) (dataIn body))))
     (judgedStep c body)
 
 unfoldable pub heardStep : CoreState → Heard → Done CoreState Output
@@ -130,6 +150,7 @@ switchedOn v = record { line = hearing []; core = record { device = fresh v; las
 unfoldable pub powerUpReader : ReaderState → ReaderState
 powerUpReader r = switchedOn (powerUp (r .core .device .values))
 
--- The bytes that answer a refusal, for the theorems that say so: NAK with its cause, if 9Fh is 1; none for 1 to 3 while the sender waits for an answer.
+-- The bytes that answer a refusal, for the theorems that say so: NAK with its cause, if 9Fh is 1; none for 1 to 3 while the sender waits for an answer,
+-- and none for 13.
 unfoldable pub refusalAnswer : CoreState → Refusal → List ℕ
-refusalAnswer c r = pick (both (leb (numberOf r) 3) (waits (c .sender))) [] (nakBytes (c .device) r)
+refusalAnswer c r = pick (both (leb (numberOf r) 3) (waits (c .sender))) [] (ifHandshake (c .device) (nakBytes reader r))

@@ -1,14 +1,17 @@
 // The reader's whole end of the line: framer, commands with the parameter table, and sender.
 use commands::Beep;
+use commands::Command;
 use commands::Device;
+use commands::Named;
+use commands::Switches;
 use commands::Verdict;
 use framer::Event;
 use framer::Found;
-use framer::HALVES;
 use framer::Halves;
-use packet::Built;
+use framer::LINE_SIZE;
 use packet::HOST;
-use packet::PARAM_REQUEST;
+use packet::MESSAGE_SIZE;
+use packet::PACKET_SIZE;
 use packet::PARAM_SEND;
 use packet::READER;
 use packet::Refusal;
@@ -16,24 +19,28 @@ use packet::Reply;
 use sender::Heard;
 use sender::Outcome;
 use sender::Sender;
+use sender::Sending;
 use table::Table;
 ghost use Prim.Native.Nat.{_≤_};
 ghost use mathlib.Core.Path.{_≡_};
 ghost use lib.ListN.{length};
+ghost use Rattle.packet.specs.Opcodes as opcode;
+ghost use Rattle.packet.specs.Packet.{seal, replyBody};
+ghost use Rattle.packet.specs.Refusals.{nakBytes};
+ghost use Rattle.packet.specs.Sizes.{headSize, bodySize, packetSize};
+ghost use Rattle.table.specs.Rows.{pairsSize};
 ghost use Rattle.table.specs.Promises.{valuesOf};
-ghost use Rattle.reader.specs.Reader.{judgedStep, noPacketStep, refuses, replyBytes, requestBytes, answerTo};
+ghost use Rattle.reader.specs.Reader.{readerAnswerSize, judgedStep, knownStep, noPacketStep, refuses, ifHandshake, requestBytes, answerTo};
 ghost use Rattle.commands.specs.Promises.{deviceOf};
-ghost use Rattle.reader.specs.Promises.{SwitchedOn, PowersUp, Hears, Starts, TimesOut, NoRoom, SoundCore, Handshake, Writes, Quiet, Joined, Accepts, ToSender, Leaves, Judges, Repeats, Performs, Again, Acts, Filled, Settles, Receives};
+ghost use Rattle.reader.specs.Promises.{SwitchedOn, PowersUp, Hears, Starts, TimesOut, NoRoom, SoundCore, Handshake, Writes, CoreWith, ReaderOf, StepOf, SentBy, Joined, Accepts, ToSender, Leaves, Judges, Performs, Again, Acts, Filled, Settles, Receives};
 
-// The line buffer.
-pub const LINE: usize = HALVES;
 // The longest answer: a PARAM_SEND with all parameters.
-pub const ANSWER: usize = 6 + table::ANSWER;
+pub const READER_ANSWER_SIZE: usize = packet::HEAD_SIZE + table::PAIRS_SIZE + packet::CHECKSUM_SIZE;
 
 // The reader's control value: the line with its last accepted packet, how long the answer to that one was, the device, the sender.
 pub struct Reader {
     pub line: Halves,
-    pub answered: usize,
+    pub last_answer: usize,
     pub device: Device,
     pub sender: Sender,
 }
@@ -49,7 +56,7 @@ pub enum Told {
 }
 
 // So many bytes stand in the answer room; the outcome is the sender's.
-pub struct Answered {
+pub struct Taken {
     pub reader: Reader,
     pub told: Told,
     pub answer: usize,
@@ -63,7 +70,7 @@ pub struct Started {
 
 // The reader's control value without its line.
 struct Core {
-    answered: usize,
+    last_answer: usize,
     device: Device,
     sender: Sender,
 }
@@ -79,18 +86,19 @@ struct Stepped {
 pub fn switched_on(table: Table) -> Reader
     ensures { λ r. ⌜ SwitchedOn table r ⌝ }
 {
-    Reader {
-        line: framer::idle_halves(),
-        answered: 0,
-        device: Device {
-            table: table::power_up(table),
-            enabled: true,
+    let device = Device {
+        table: table::power_up(table),
+        switches: Switches {
+            scanning: true,
             session: false,
             aim: false,
             led: false,
         },
-        sender: sender::idle(false),
-    }
+    };
+    reader_of(
+        framer::idle_halves(),
+        core_with(0, device, sender::idle(false)),
+    )
 }
 
 // Power-up copies permanent to present, clears framer and sender and forgets the last accepted packet.
@@ -105,73 +113,67 @@ pub fn power_up(reader: Reader) -> Reader
 // Starts a message.
 pub fn start(
     reader: Reader,
-    message: &mut [u8; sender::MESSAGE],
+    message: &mut [u8; MESSAGE_SIZE],
     copy: &mut [u8],
     code: u8,
     bytes: &[u8],
 ) -> Started
     ensures { λ r. ⌜ Starts reader (now (message .entry)) (now (copy .entry)) code (now (bytes .entry)) r (now (message .exit)) (now (copy .exit)) ⌝ }
 {
-    let sending = sender::start(reader.sender, message, copy, code, bytes);
-    let next = sending.sender;
-    let outcome = sending.outcome;
-    let device = reader.device;
-    let line = reader.line;
-    Started {
-        reader: Reader {
-            line,
-            answered: reader.answered,
-            device,
-            sender: next,
-        },
-        outcome,
-    }
+    sent(
+        reader,
+        sender::start(reader.sender, message, copy, code, bytes),
+    )
 }
 
 // The sender's response time-out.
-pub fn time_out(reader: Reader, message: &[u8; sender::MESSAGE], copy: &mut [u8]) -> Started
+pub fn time_out(reader: Reader, message: &[u8; MESSAGE_SIZE], copy: &mut [u8]) -> Started
     ensures { λ r. ⌜ TimesOut reader (now (message .entry)) (now (copy .entry)) r (now (copy .exit)) ⌝ }
 {
-    let sending = sender::hear(reader.sender, message, copy, Heard::TimeOut);
+    sent(
+        reader,
+        sender::hear(reader.sender, message, copy, Heard::TimeOut),
+    )
+}
+
+// What the sender did; nothing else of the reader changes.
+fn sent(reader: Reader, sending: Sending) -> Started
+    ensures { λ r. ⌜ SentBy reader sending r ⌝ }
+{
+    let line = reader.line;
+    let device = reader.device;
     let next = sending.sender;
     let outcome = sending.outcome;
-    let device = reader.device;
-    let line = reader.line;
     Started {
-        reader: Reader {
-            line,
-            answered: reader.answered,
-            device,
-            sender: next,
-        },
+        reader: reader_of(line, core_with(reader.last_answer, device, next)),
         outcome,
     }
 }
 
-// One event of the line. Rooms: 25 bytes for answers, 257 for copies.
+// One event of the line. Rooms: READER_ANSWER_SIZE bytes for answers, packet::PACKET_SIZE for copies.
 pub fn hear(
     reader: Reader,
-    line: &mut [u8; LINE],
-    answers: &mut [u8; ANSWER],
-    message: &[u8; sender::MESSAGE],
+    line: &mut [u8; LINE_SIZE],
+    answers: &mut [u8; READER_ANSWER_SIZE],
+    message: &[u8; MESSAGE_SIZE],
     answer: &mut [u8],
     copy: &mut [u8],
     event: Event,
-) -> Answered
+) -> Taken
     ensures { λ r. ⌜ Hears reader (now (line .entry)) (now (answers .entry)) (now (message .entry)) (now (answer .entry)) (now (copy .entry)) event r (now (line .exit)) (now (answers .exit)) (now (answer .exit)) (now (copy .exit)) ⌝ }
 {
-    if answer.len() < ANSWER {
+    if answer.len() < READER_ANSWER_SIZE {
         return no_room(reader);
     }
-    if copy.len() < sender::ROOM {
+    if copy.len() < PACKET_SIZE {
         return no_room(reader);
     }
-    let core = core_of(reader, answers);
+    let core = sound_core(reader, answers);
     let listened = framer::listen(reader.line, line, event);
     let halves = listened.halves;
     let found = listened.found;
     match found {
-        Found::Nothing => settle(halves, 0, quiet(core)),
+        Found::Nothing => settle(halves, 0, step(core, Told::Nothing, 0)),
         Found::Refused(refusal) => settle(halves, 0, no_packet(core, refusal, answer)),
         Found::Packet(head) => received(
             halves,
@@ -187,10 +189,10 @@ pub fn hear(
 }
 
 // The event is not taken.
-fn no_room(reader: Reader) -> Answered
+fn no_room(reader: Reader) -> Taken
     ensures { λ r. ⌜ NoRoom reader r ⌝ }
 {
-    Answered {
+    Taken {
         reader,
         told: Told::Refused(Refusal::Room),
         answer: 0,
@@ -199,39 +201,55 @@ fn no_room(reader: Reader) -> Answered
 }
 
 // Any control value is taken: an answer longer than its buffer is none.
-fn core_of(reader: Reader, answers: &[u8]) -> Core
-    requires { ⌜ length (now answers) ≡ 25 ⌝ }
+fn sound_core(reader: Reader, answers: &[u8]) -> Core
+    requires { ⌜ length (now answers) ≡ readerAnswerSize ⌝ }
     ensures { λ r. ⌜ SoundCore reader (now (answers .entry)) r ⌝ }
 {
     let device = reader.device;
     let sender = reader.sender;
-    if reader.answered <= answers.len() {
-        return Core {
-            answered: reader.answered,
-            device,
-            sender,
-        };
+    if reader.last_answer <= answers.len() {
+        return core_with(reader.last_answer, device, sender);
     }
+    core_with(0, device, sender)
+}
+
+fn core_with(last_answer: usize, device: Device, sender: Sender) -> Core
+    ensures { λ r. ⌜ CoreWith «last_answer» device sender r ⌝ }
+{
     Core {
-        answered: 0,
+        last_answer,
         device,
         sender,
     }
 }
 
-fn quiet(core: Core) -> Stepped
-    ensures { λ r. ⌜ Quiet core r ⌝ }
+fn reader_of(line: Halves, core: Core) -> Reader
+    ensures { λ r. ⌜ ReaderOf line core r ⌝ }
+{
+    let device = core.device;
+    let sender = core.sender;
+    Reader {
+        line,
+        last_answer: core.last_answer,
+        device,
+        sender,
+    }
+}
+
+// A step that the sender has no part in.
+fn step(core: Core, told: Told, answer: usize) -> Stepped
+    ensures { λ r. ⌜ StepOf core told answer r ⌝ }
 {
     Stepped {
         core,
-        told: Told::Nothing,
-        answer: 0,
+        told,
+        answer,
         outcome: Outcome::Nothing,
     }
 }
 
 // The control value after an event; a command that was acted on stays where it was received.
-fn settle(halves: Halves, n: usize, stepped: Stepped) -> Answered
+fn settle(halves: Halves, n: usize, stepped: Stepped) -> Taken
     ensures { λ r. ⌜ Settles halves n stepped r ⌝ }
 {
     let told = stepped.told;
@@ -241,21 +259,14 @@ fn settle(halves: Halves, n: usize, stepped: Stepped) -> Answered
     joined(halves, stepped)
 }
 
-fn joined(halves: Halves, stepped: Stepped) -> Answered
+fn joined(halves: Halves, stepped: Stepped) -> Taken
     ensures { λ r. ⌜ Joined halves stepped r ⌝ }
 {
     let core = stepped.core;
-    let device = core.device;
-    let sender = core.sender;
     let told = stepped.told;
     let outcome = stepped.outcome;
-    Answered {
-        reader: Reader {
-            line: halves,
-            answered: core.answered,
-            device,
-            sender,
-        },
+    Taken {
+        reader: reader_of(halves, core),
         told,
         answer: stepped.answer,
         outcome,
@@ -278,13 +289,13 @@ fn received(
     halves: Halves,
     core: Core,
     n: usize,
-    line: &[u8; LINE],
+    line: &[u8; LINE_SIZE],
     answers: &mut [u8],
-    message: &[u8; sender::MESSAGE],
+    message: &[u8; MESSAGE_SIZE],
     answer: &mut [u8],
     copy: &mut [u8],
-) -> Answered
-    requires { ⌜ (core .answered ≤ length (now answers)) × (length (now answers) ≡ 25) × (25 ≤ length (now answer)) × (257 ≤ length (now copy)) × (4 ≤ n) × (n ≤ 255) ⌝ }
+) -> Taken
+    requires { ⌜ (core .«last_answer» ≤ length (now answers)) × (length (now answers) ≡ readerAnswerSize) × (readerAnswerSize ≤ length (now answer)) × (packetSize ≤ length (now copy)) × (headSize ≤ n) × (n ≤ bodySize) ⌝ }
     ensures { λ r. ⌜ Receives halves core n (now (line .entry)) (now (answers .entry)) (now (message .entry)) (now (answer .entry)) (now (copy .entry)) r (now (answers .exit)) (now (answer .exit)) (now (copy .exit)) ⌝ }
 {
     let body = framer::received(halves, line, n);
@@ -296,21 +307,17 @@ fn received(
 }
 
 // CMD_ACK and CMD_NAK go to the sender and are never refused.
-fn to_sender(core: Core, body: &[u8], message: &[u8; sender::MESSAGE], copy: &mut [u8]) -> Stepped
-    requires { ⌜ (257 ≤ length (now copy)) × (4 ≤ length (now body)) ⌝ }
+fn to_sender(core: Core, body: &[u8], message: &[u8; MESSAGE_SIZE], copy: &mut [u8]) -> Stepped
+    requires { ⌜ (packetSize ≤ length (now copy)) × (headSize ≤ length (now body)) ⌝ }
     ensures { λ r. ⌜ ToSender core (now (body .entry)) (now (message .entry)) (now (copy .entry)) r (now (copy .exit)) ⌝ }
 {
-    let heard = sender::heed(body[1], body[2], body[3], packet::data_part(body));
+    let heard = sender::heed(HOST, body[1], body[2], body[3], packet::data_part(body));
     let sending = sender::hear(core.sender, message, copy, heard);
     let sender = sending.sender;
     let outcome = sending.outcome;
     let device = core.device;
     Stepped {
-        core: Core {
-            answered: core.answered,
-            device,
-            sender,
-        },
+        core: core_with(core.last_answer, device, sender),
         told: Told::Nothing,
         answer: 0,
         outcome,
@@ -319,48 +326,44 @@ fn to_sender(core: Core, body: &[u8], message: &[u8; sender::MESSAGE], copy: &mu
 
 // A refusal of the framer. A reader whose sender waits for an answer sends nothing for it.
 fn no_packet(core: Core, refusal: Refusal, answer: &mut [u8]) -> Stepped
-    requires { ⌜ 25 ≤ length (now answer) ⌝ }
+    requires { ⌜ readerAnswerSize ≤ length (now answer) ⌝ }
     ensures { λ r. ⌜ Leaves (λ s. noPacketStep s refusal) core (now (answer .entry)) r (now (answer .exit)) ⌝ }
 {
     if sender::waits(core.sender) {
-        return Stepped {
-            core,
-            told: Told::Refused(refusal),
-            answer: 0,
-            outcome: Outcome::Nothing,
-        };
+        return step(core, Told::Refused(refusal), 0);
     }
     refuse(core, refusal, answer)
 }
 
-// A refusal is answered by NAK with its cause, if 9Fh is 1.
+// A refusal is answered by NAK with its cause.
 fn refuse(core: Core, refusal: Refusal, answer: &mut [u8]) -> Stepped
-    requires { ⌜ 25 ≤ length (now answer) ⌝ }
+    requires { ⌜ readerAnswerSize ≤ length (now answer) ⌝ }
     ensures { λ r. ⌜ Leaves (λ s. refuses s refusal) core (now (answer .entry)) r (now (answer .exit)) ⌝ }
 {
     let device = core.device;
-    let count = say(device, Reply::Nak(packet::cause(refusal)), answer);
-    Stepped {
-        core,
-        told: Told::Refused(refusal),
-        answer: count,
-        outcome: Outcome::Nothing,
-    }
+    let count = nak(device, refusal, answer);
+    step(core, Told::Refused(refusal), count)
 }
 
 // ACK and NAK go out only if 9Fh is 1.
-fn say(device: Device, reply: Reply, answer: &mut [u8]) -> usize
-    requires { ⌜ 25 ≤ length (now answer) ⌝ }
-    ensures { λ r. ⌜ Writes (replyBytes (deviceOf device) reply) (now (answer .entry)) r (now (answer .exit)) ⌝ }
+fn nak(device: Device, refusal: Refusal, answer: &mut [u8]) -> usize
+    requires { ⌜ readerAnswerSize ≤ length (now answer) ⌝ }
+    ensures { λ r. ⌜ Writes (ifHandshake (deviceOf device) (nakBytes opcode.reader refusal)) (now (answer .entry)) r (now (answer .exit)) ⌝ }
 {
     if handshake(device) {
-        match packet::answer(answer, READER, reply) {
-            Built::Written(count) => count,
-            Built::Refused(_) => 0,
-        }
-    } else {
-        0
+        return packet::size_of(packet::nak(answer, READER, refusal));
     }
+    0
+}
+
+fn ack(device: Device, answer: &mut [u8]) -> usize
+    requires { ⌜ readerAnswerSize ≤ length (now answer) ⌝ }
+    ensures { λ r. ⌜ Writes (ifHandshake (deviceOf device) (seal (replyBody opcode.reader Reply.Ack))) (now (answer .entry)) r (now (answer .exit)) ⌝ }
+{
+    if handshake(device) {
+        return packet::size_of(packet::answer(answer, READER, Reply::Ack));
+    }
+    0
 }
 
 fn handshake(device: Device) -> bool
@@ -370,75 +373,78 @@ fn handshake(device: Device) -> bool
     table::value(table, 0x9F) == 1
 }
 
-// 4 and 5. Document 01 has 6 and 7 before the resend test; here they are judged behind it, once on each way: by `repeat`, or by `command` itself.
+// 4 to 6, then the command.
 fn judge(core: Core, body: &[u8], last: &[u8], answers: &mut [u8], answer: &mut [u8]) -> Stepped
-    requires { ⌜ (core .answered ≤ length (now answers)) × (length (now answers) ≡ 25) × (25 ≤ length (now answer)) × (4 ≤ length (now body)) ⌝ }
+    requires { ⌜ (core .«last_answer» ≤ length (now answers)) × (length (now answers) ≡ readerAnswerSize) × (readerAnswerSize ≤ length (now answer)) × (headSize ≤ length (now body)) ⌝ }
     ensures { λ r. ⌜ Judges judgedStep core (now (body .entry)) (now (last .entry)) (now (answers .entry)) (now (answer .entry)) r (now (answers .exit)) (now (answer .exit)) ⌝ }
 {
-    let opcode = body[1];
-    let status = body[3];
-    let data = packet::data_part(body);
     if body[2] != HOST {
         return refuse(core, Refusal::Source, answer);
     }
-    if packet::status_allowed(opcode, status) {
-        if packet::resent_equal(last, body) {
-            return repeat(core, opcode, data, answers, answer);
-        }
-        return perform(core, opcode, status, data, answers, answer);
+    if packet::status_allowed(body[1], body[3]) {
+        return match commands::named_by(body[1]) {
+            Named::Unknown => refuse(core, Refusal::Opcode, answer),
+            Named::Known(command) => known(core, command, body, last, answers, answer),
+        };
     }
     refuse(core, Refusal::Status, answer)
 }
 
-// A resent equal of the last accepted packet: 6 and 7, then the same answer again.
-fn repeat(core: Core, opcode: u8, data: &[u8], answers: &[u8], answer: &mut [u8]) -> Stepped
-    requires { ⌜ (core .answered ≤ length (now answers)) × (length (now answers) ≡ 25) × (25 ≤ length (now answer)) ⌝ }
-    ensures { λ r. ⌜ Repeats core opcode (now («data» .entry)) (now (answers .entry)) (now (answer .entry)) r (now (answer .exit)) ⌝ }
+// A command that is known: 7, then a resent equal gets the same answer again, and any other is performed.
+fn known(
+    core: Core,
+    command: Command,
+    body: &[u8],
+    last: &[u8],
+    answers: &mut [u8],
+    answer: &mut [u8],
+) -> Stepped
+    requires { ⌜ (core .«last_answer» ≤ length (now answers)) × (length (now answers) ≡ readerAnswerSize) × (readerAnswerSize ≤ length (now answer)) × (headSize ≤ length (now body)) ⌝ }
+    ensures { λ r. ⌜ Judges (knownStep command) core (now (body .entry)) (now (last .entry)) (now (answers .entry)) (now (answer .entry)) r (now (answers .exit)) (now (answer .exit)) ⌝ }
 {
-    if commands::known(opcode) {
-        if commands::length_allowed(opcode, data) {
+    let data = packet::data_part(body);
+    if commands::length_allowed(command, data) {
+        if packet::resent_equal(last, body) {
             return again(core, answers, answer);
         }
-        return refuse(core, Refusal::Data, answer);
+        return perform(core, command, body[3], data, answers, answer);
     }
-    refuse(core, Refusal::Opcode, answer)
+    refuse(core, Refusal::Data, answer)
 }
 
-// Any other command: 6 to 9 by its verdict, or it is acted on.
+// 8 and 9, or the command is acted on.
 fn perform(
     core: Core,
-    opcode: u8,
+    command: Command,
     status: u8,
     data: &[u8],
     answers: &mut [u8],
     answer: &mut [u8],
 ) -> Stepped
-    requires { ⌜ (core .answered ≤ length (now answers)) × (length (now answers) ≡ 25) × (25 ≤ length (now answer)) ⌝ }
-    ensures { λ r. ⌜ Performs core opcode status (now («data» .entry)) (now (answers .entry)) (now (answer .entry)) r (now (answers .exit)) (now (answer .exit)) ⌝ }
+    requires { ⌜ (core .«last_answer» ≤ length (now answers)) × (length (now answers) ≡ readerAnswerSize) × (readerAnswerSize ≤ length (now answer)) ⌝ }
+    ensures { λ r. ⌜ Performs core command status (now («data» .entry)) (now (answers .entry)) (now (answer .entry)) r (now (answers .exit)) (now (answer .exit)) ⌝ }
 {
     let device = core.device;
-    let commanded = commands::command(device, opcode, status, data);
+    let sender = core.sender;
+    // The same core put together again: the compiled code then keeps its parts and no second copy, which saves 128 bytes of stack.
+    let same = core_with(core.last_answer, device, sender);
+    let commanded = commands::act(device, command, status, data);
     let verdict = commanded.verdict;
     let next = commanded.device;
     match verdict {
-        Verdict::Denied(refusal) => refuse(core, refusal, answer),
-        Verdict::Done(beep) => act(core, next, beep, opcode, data, answers, answer),
+        Verdict::Denied(refusal) => refuse(same, refusal, answer),
+        Verdict::Done(beep) => act(same, next, beep, command, data, answers, answer),
     }
 }
 
 // The same answer bytes as then.
 fn again(core: Core, answers: &[u8], answer: &mut [u8]) -> Stepped
-    requires { ⌜ (core .answered ≤ length (now answers)) × (length (now answers) ≡ 25) × (25 ≤ length (now answer)) ⌝ }
+    requires { ⌜ (core .«last_answer» ≤ length (now answers)) × (length (now answers) ≡ readerAnswerSize) × (readerAnswerSize ≤ length (now answer)) ⌝ }
     ensures { λ r. ⌜ Again core (now (answers .entry)) (now (answer .entry)) r (now (answer .exit)) ⌝ }
 {
-    let count = core.answered;
+    let count = core.last_answer;
     words::copy(&answers[..count], answer);
-    Stepped {
-        core,
-        told: Told::Repeated,
-        answer: count,
-        outcome: Outcome::Nothing,
-    }
+    step(core, Told::Repeated, count)
 }
 
 // The answer goes out, and is kept for a resend.
@@ -446,45 +452,36 @@ fn act(
     core: Core,
     next: Device,
     beep: Beep,
-    opcode: u8,
+    command: Command,
     data: &[u8],
     answers: &mut [u8],
     answer: &mut [u8],
 ) -> Stepped
-    requires { ⌜ (length (now answers) ≡ 25) × (25 ≤ length (now answer)) ⌝ }
-    ensures { λ r. ⌜ Acts core next beep opcode (now («data» .entry)) (now (answers .entry)) (now (answer .entry)) r (now (answers .exit)) (now (answer .exit)) ⌝ }
+    requires { ⌜ (length (now answers) ≡ readerAnswerSize) × (readerAnswerSize ≤ length (now answer)) ⌝ }
+    ensures { λ r. ⌜ Acts core next beep command (now («data» .entry)) (now (answers .entry)) (now (answer .entry)) r (now (answers .exit)) (now (answer .exit)) ⌝ }
 {
     let device = core.device;
-    let sender = core.sender;
-    let count = answer_to(device, opcode, data, answer);
+    let count = answer_to(device, command, data, answer);
     words::copy(&answer[..count], answers);
-    Stepped {
-        core: Core {
-            answered: count,
-            device: next,
-            sender,
-        },
-        told: Told::Acted(beep),
-        answer: count,
-        outcome: Outcome::Nothing,
-    }
+    let sender = core.sender;
+    step(core_with(count, next, sender), Told::Acted(beep), count)
 }
 
 // PARAM_REQUEST is answered by a PARAM_SEND in any case, the others by ACK.
-fn answer_to(device: Device, opcode: u8, data: &[u8], answer: &mut [u8]) -> usize
-    requires { ⌜ 25 ≤ length (now answer) ⌝ }
-    ensures { λ r. ⌜ Writes (answerTo (deviceOf device) opcode (now («data» .entry))) (now (answer .entry)) r (now (answer .exit)) ⌝ }
+fn answer_to(device: Device, command: Command, data: &[u8], answer: &mut [u8]) -> usize
+    requires { ⌜ readerAnswerSize ≤ length (now answer) ⌝ }
+    ensures { λ r. ⌜ Writes (answerTo (deviceOf device) command (now («data» .entry))) (now (answer .entry)) r (now (answer .exit)) ⌝ }
 {
-    if opcode == PARAM_REQUEST {
+    if let Command::ParamRequest = command {
         let table = device.table;
         return request(table, data, answer);
     }
-    say(device, Reply::Ack, answer)
+    ack(device, answer)
 }
 
 // The pairs are written into the middle of the room, after the header; then header and checksum are filled in around them.
 fn request(table: Table, asked: &[u8], answer: &mut [u8]) -> usize
-    requires { ⌜ 25 ≤ length (now answer) ⌝ }
+    requires { ⌜ readerAnswerSize ≤ length (now answer) ⌝ }
     ensures { λ r. ⌜ Writes (requestBytes (valuesOf table) (now (asked .entry))) (now (answer .entry)) r (now (answer .exit)) ⌝ }
 {
     match table::answer(table, asked, &mut answer[4..]) {
@@ -494,11 +491,8 @@ fn request(table: Table, asked: &[u8], answer: &mut [u8]) -> usize
 }
 
 fn filled(count: usize, answer: &mut [u8]) -> usize
-    requires { ⌜ (25 ≤ length (now answer)) × (count ≤ 19) ⌝ }
+    requires { ⌜ (readerAnswerSize ≤ length (now answer)) × (count ≤ pairsSize) ⌝ }
     ensures { λ r. ⌜ Filled count (now (answer .entry)) r (now (answer .exit)) ⌝ }
 {
-    match packet::fill(answer, PARAM_SEND, READER, 0, count) {
-        Built::Written(size) => size,
-        Built::Refused(_) => 0,
-    }
+    packet::size_of(packet::fill(answer, PARAM_SEND, READER, 0, count))
 }

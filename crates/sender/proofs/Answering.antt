@@ -1,5 +1,5 @@
 -- Each answer of `hear` and `start` is a step of the sender: one law for each. Assumes nothing.
-use Prim.Native.Nat.{ℕ, _-_, _≤_, _<_}
+use Prim.Native.Nat.{ℕ, _+_, _-_, _≤_, _<_}
 use mathlib.Core.Path.{_≡_, refl, sym, ap, _∙_}
 use mathlib.Core.Bool.{Bool, true, false}
 use mathlib.Core.List.{List, [], _∷_}
@@ -11,8 +11,8 @@ use Rattle.words.specs.Lists.{either, over, Copied}
 use Rattle.words.proofs.Lists.{over-nil, take-over, copied-over}
 use Rattle.packet.specs.declared.Refusal.the-variants as refusal
 use Rattle.sender.specs.Pieces.{packetsOf}
-use Rattle.sender.specs.Sender.{SenderState, nothingOut, some, waits, Sent, copy, delivered, failed, begins, startStep, fails, resends, answered, senderStep}
-use Rattle.sender.specs.Promises.{Waits, nameOf, copyOf, idleControl, messageOf, outOf, stateOf, atAfter, controlAfter, Idle, startedOf, Starts, Hears, Sounds, Fails, Out, restOf, presentOf, Writes, Copies, Answers, soundOf}
+use Rattle.sender.specs.Sender.{SenderState, nothingOut, some, waits, Sent, copy, delivered, failed, begins, startStep, fails, resends, outStep, senderStep}
+use Rattle.sender.specs.Promises.{Waits, nameOf, copyOf, idleControl, messageOf, outOf, stateOf, atAfter, controlAfter, Idle, startedOf, Starts, Hears, Sounds, refusing, Refuses, Moves, Fails, Out, restOf, presentOf, Writes, Copies, OutSteps, soundOf}
 use Rattle.sender.specs.declared.Sender.{Sender}
 use Rattle.sender.specs.declared.Heard.{Heard}
 use Rattle.sender.specs.declared.Heard.the-variants.{Ack, Nak, TimeOut, Nothing}
@@ -26,79 +26,79 @@ use Rattle.sender.proofs.Standing.{tailOf, queue-is, marked-present, st
 -- A step that gives a copy: the next control value stands for the next state.
 copy-answer : {s s′ : Sender} {buffer room room′ body : List ℕ} {h : Heard} {r : Sending} →
     s′ ≡ record { out = true; code = s .code; length = s .length; at = atAfter (s .at) h; resends = s′ .resends; copies = s′ .copies; failed = s′ .failed } →
-    senderStep (outOf s buffer) h ≡ record { next = stands s′ buffer; told = copy body ∷ [] } → Writes s′ body room r room′ → Answers s buffer room h r room′
+    senderStep (outOf s buffer) h ≡ record { next = stands s′ buffer; told = copy body ∷ [] } → Writes s′ body room r room′ → OutSteps s buffer room h r room′
 unfolding controlAfter some stands nameOf copyOf
 copy-answer same e w = record { is = w .is ∙ rw (e, ← same) refl; room-is = w .room-is ∙ rw e refl }
 
 -- A step that ends the message.
 end-answer : {s : Sender} {buffer room : List ℕ} {h : Heard} {r : Sending} {f : Bool} {x : Sent} → copyOf (x ∷ []) ≡ [] →
-    senderStep (outOf s buffer) h ≡ record { next = nothingOut f; told = x ∷ [] } → r ≡ record { sender = idleControl f; outcome = nameOf (x ∷ []) } → Answers s buffer room h r room
+    senderStep (outOf s buffer) h ≡ record { next = nothingOut f; told = x ∷ [] } → r ≡ record { sender = idleControl f; outcome = nameOf (x ∷ []) } → OutSteps s buffer room h r room
 unfolding controlAfter some
 end-answer {room = room} none e is = record { is = is ∙ rw e refl; room-is = sym (rw (e, none) (over-nil room)) }
 
 -- ---- the present packet again
 
 -- Failed, by whatever was heard.
-fail-answer : {s : Sender} {buffer room : List ℕ} {h : Heard} {r : Sending} → senderStep (outOf s buffer) h ≡ fails (stands s buffer) → Fails s r → Answers s buffer room h r room
+fail-answer : {s : Sender} {buffer room : List ℕ} {h : Heard} {r : Sending} → senderStep (outOf s buffer) h ≡ fails (stands s buffer) → Fails s r → OutSteps s buffer room h r room
 unfolding fails stands copyOf nameOf
 fail-answer {s} e f = end-answer {x = failed (s .copies)} refl e (f .is)
 
 module _ {s : Sender} {buffer room : List ℕ} {r : Sending} (o : Out s) where
-  pub again-copy : {room′ : List ℕ} → s .resends < 2 →
-      Copies (resending s) buffer 1 room r room′ → Answers s buffer room TimeOut r room′
-  unfolding atAfter answered resends stands presentOf restOf messageOf tailOf
-  again-copy h k =
-      copy-answer {body = presentOf s buffer 1} refl
+  pub again-copy : {n : Sender} {room′ : List ℕ} → s .resends < 2 → Moves s (s .at) (s .resends + 1) (s .copies + 1) n →
+      Copies n buffer 1 room r room′ → OutSteps s buffer room TimeOut r room′
+  unfolding atAfter outStep resends stands presentOf restOf messageOf tailOf
+  again-copy h m k =
+      copy-answer {s′ = resending s} {body = presentOf s buffer 1} refl
       (step-is s buffer TimeOut (o .out) ∙ simp (lt-ltb (s .resends) 2 h, marked-present s buffer))
-      (k .writes)
+      (rw (m .is) at (k .writes))
 
-  pub again-failed : 2 ≤ s .resends → Fails s r → Answers s buffer room TimeOut r room
-  unfolding answered resends stands
+  pub again-failed : 2 ≤ s .resends → Fails s r → OutSteps s buffer room TimeOut r room
+  unfolding outStep resends stands
   again-failed h f = fail-answer (step-is s buffer TimeOut (o .out) ∙ simp (le-ltb (s .resends) 2 h)) f
 
-  pub denied-again : {room′ : List ℕ} {cause : ℕ} → cause ≡ 1 → Answers s buffer room TimeOut r room′ → Answers s buffer room (Nak cause) r room′
-  unfolding answered controlAfter atAfter
+  pub denied-again : {room′ : List ℕ} {cause : ℕ} → cause ≡ 1 → OutSteps s buffer room TimeOut r room′ → OutSteps s buffer room (Nak cause) r room′
+  unfolding outStep controlAfter atAfter
   denied-again {cause = cause} e k =
       let same : senderStep (outOf s buffer) (Nak cause) ≡ senderStep (outOf s buffer) TimeOut =
       step-is s buffer (Nak cause) (o .out) ∙ (rw (eq-eqb cause 1 e) (sym (step-is s buffer TimeOut (o .out)))) in
       record { is = k .is ∙ rw same refl; room-is = k .room-is ∙ rw same refl }
 
-  pub denied-failed : {cause : ℕ} → (cause ≡ 1 → ⊥) → Fails s r → Answers s buffer room (Nak cause) r room
-  unfolding answered
+  pub denied-failed : {cause : ℕ} → (cause ≡ 1 → ⊥) → Fails s r → OutSteps s buffer room (Nak cause) r room
+  unfolding outStep
   denied-failed {cause = cause} h f = fail-answer (step-is s buffer (Nak cause) (o .out) ∙ simp (ne-eqb cause 1 h)) f
 
 -- ---- the next packet
 
 module _ {s : Sender} {buffer room : List ℕ} (o : Out s) (long : length buffer ≡ 4096) where
-  pub onward-next : {room′ : List ℕ} {r : Sending} → 250 < s .length - s .at →
-      Copies (goingOn s) buffer 0 room r room′ → Answers s buffer room Ack r room′
-  unfolding atAfter stands answered
-  onward-next h k =
+  pub onward-next : {n : Sender} {room′ : List ℕ} {r : Sending} → 250 < s .length - s .at → Moves s (s .at + 250) 0 (s .copies) n →
+      Copies n buffer 0 room r room′ → OutSteps s buffer room Ack r room′
+  unfolding atAfter stands outStep
+  onward-next h m k =
       let l = length-rest buffer o long in
       copy-answer {s′ = goingOn s} {body = presentOf (goingOn s) buffer 0} refl
       (step-is s buffer Ack (o .out) ∙ rw (tail-cut s buffer (omega arith)) refl)
-      (k .writes)
+      (rw (m .is) at (k .writes))
 
-  pub onward-delivered : {i : Sender} → s .length - s .at ≤ 250 → Idle false i → Answers s buffer room Ack (record { sender = i; outcome = outcome.Delivered (s .copies) }) room
-  unfolding stands answered copyOf nameOf
+  pub onward-delivered : {i : Sender} → s .length - s .at ≤ 250 → Idle false i → OutSteps s buffer room Ack (record { sender = i; outcome = outcome.Delivered (s .copies) }) room
+  unfolding stands outStep copyOf nameOf
   onward-delivered {i} h idle =
       let l = length-rest buffer o long in
       end-answer {f = false} {x = delivered (s .copies)} refl (step-is s buffer Ack (o .out) ∙ rw (tail-last s buffer (omega arith)) refl) (simp (idle .is))
 
 -- ---- what is heard
 
-pub answered-as : {s : Sender} {buffer room room′ : List ℕ} {h g : Heard} {r : Sending} → h ≡ g → Answers s buffer room g r room′ → Answers s buffer room h r room′
-answered-as e k = rw e k
+pub out-as : {s : Sender} {buffer room room′ : List ℕ} {h g : Heard} {r : Sending} → h ≡ g → OutSteps s buffer room g r room′ → OutSteps s buffer room h r room′
+out-as e k = rw e k
 
-pub answered-nothing : {s : Sender} {buffer room : List ℕ} {h : Heard} → h ≡ Nothing → Out s → Answers s buffer room h (record { sender = s; outcome = outcome.Nothing }) room
-unfolding answered controlAfter some stands atAfter nameOf copyOf
-answered-nothing {s} {buffer} {room} e o =
+pub out-nothing : {s : Sender} {buffer room : List ℕ} {h : Heard} → h ≡ Nothing → Out s → OutSteps s buffer room h (record { sender = s; outcome = outcome.Nothing }) room
+unfolding outStep controlAfter some stands atAfter nameOf copyOf
+out-nothing {s} {buffer} {room} e o =
     let step = step-is s buffer Nothing (o .out) in
     rw e (record { is = rw step (ap (λ (x : Sender). record { sender = x; outcome = outcome.Nothing }) (same-out s (o .out))); room-is = rw step (sym (over-nil room)) })
 
-pub hear-room : {s : Sender} {buffer room : List ℕ} {h : Heard} → length room < 257 → Hears s buffer room h (record { sender = s; outcome = outcome.Refused refusal.Room }) room
-hear-room {s} {buffer} {room} h =
-    record { is = simp (lt-ltb (length room) 257 h); next = simp (lt-ltb (length room) 257 h); room-is = simp (lt-ltb (length room) 257 h, over-nil room) }
+pub hear-room : {s : Sender} {buffer room : List ℕ} {h : Heard} {r : Sending} → length room < 257 → Refuses s refusal.Room r → Hears s buffer room h r room
+hear-room {s} {buffer} {room} h k =
+    record { is = simp (lt-ltb (length room) 257 h) (k .is); next = simp (lt-ltb (length room) 257 h, k .is); room-is = simp (lt-ltb (length room) 257 h, over-nil room) }
 
 waits-by : (s n : Sender) (buffer : List ℕ) (k : Sounds s n) (d : Bool) → n .out ≡ d → n .out ≡ waits (stateOf s buffer)
 unfolding some stands
@@ -109,8 +109,8 @@ pub waits-is : {s n : Sender} → Sounds s n → Waits s (n .out)
 waits-is {s} {n} k = record { is = λ buffer. waits-by s n buffer k (n .out) refl }
 
 module _ {s n : Sender} {buffer room : List ℕ} {h : Heard} (l : 257 ≤ length room) (k : Sounds s n) where
-  pub hear-answered : {room′ : List ℕ} {r : Sending} → Answers n buffer room h r room′ → Hears s buffer room h r room′
-  hear-answered {r = r} a =
+  pub hear-out : {room′ : List ℕ} {r : Sending} → OutSteps n buffer room h r room′ → Hears s buffer room h r room′
+  hear-out {r = r} a =
       let step = senderStep (stateOf s buffer) h in
       let is : r ≡ record { sender = controlAfter (soundOf s) h step; outcome = nameOf (step .told) } = a .is ∙ rw (← k .is, state-sound s n buffer k) refl in
       record {
@@ -120,41 +120,41 @@ module _ {s n : Sender} {buffer room : List ℕ} {h : Heard} (l : 257 ≤ length
       }
 
   pub hear-nothing : n .out ≡ false → Hears s buffer room h (record { sender = n; outcome = outcome.Nothing }) room
-  unfolding outOf senderStep answered controlAfter some nameOf copyOf
+  unfolding outOf senderStep outStep controlAfter some nameOf copyOf
   hear-nothing o =
-      hear-answered (record { is = simp (sounds-idle s n buffer k o); room-is = simp (sounds-idle s n buffer k o, over-nil room) })
+      hear-out (record { is = simp (sounds-idle s n buffer k o); room-is = simp (sounds-idle s n buffer k o, over-nil room) })
 
 -- ---- the start
 
-module _ {s : Sender} {buffer room m : List ℕ} {code : ℕ} where
-  pub start-room : length room < 257 → Starts s buffer room code m (record { sender = s; outcome = outcome.Refused refusal.Room }) buffer room
+module _ {s : Sender} {buffer room m : List ℕ} {code : ℕ} {r : Sending} where
+  pub start-room : length room < 257 → Refuses s refusal.Room r → Starts s buffer room code m r buffer room
   unfolding startedOf
-  start-room h =
+  start-room h k =
       record {
-        is = simp (lt-ltb (length room) 257 h);
-        next = simp (lt-ltb (length room) 257 h);
+        is = simp (lt-ltb (length room) 257 h) (k .is);
+        next = simp (lt-ltb (length room) 257 h, k .is);
         buffer-is = simp (lt-ltb (length room) 257 h, over-nil buffer);
         room-is = simp (lt-ltb (length room) 257 h, over-nil room);
       }
 
-  start-refused : 257 ≤ length room → either (ltb 4096 (length m)) (waits (stateOf s buffer)) ≡ true →
-      Starts s buffer room code m (record { sender = s; outcome = outcome.Refused refusal.Start }) buffer room
+  start-refused : 257 ≤ length room → either (ltb 4096 (length m)) (waits (stateOf s buffer)) ≡ true → Refuses s refusal.Start r →
+      Starts s buffer room code m r buffer room
   unfolding startedOf startStep copyOf
-  start-refused h e =
+  start-refused h e k =
       record {
-        is = simp (le-ltb (length room) 257 h, e);
-        next = simp (le-ltb (length room) 257 h, e);
+        is = simp (le-ltb (length room) 257 h, e) (k .is);
+        next = simp (le-ltb (length room) 257 h, e, k .is);
         buffer-is = simp (le-ltb (length room) 257 h, e, over-nil buffer);
         room-is = simp (le-ltb (length room) 257 h, e, over-nil room);
       }
 
-  pub start-long : 257 ≤ length room → 4096 < length m → Starts s buffer room code m (record { sender = s; outcome = outcome.Refused refusal.Start }) buffer room
-  start-long h l = start-refused h (simp (lt-ltb 4096 (length m) l))
+  pub start-long : 257 ≤ length room → 4096 < length m → Refuses s refusal.Start r → Starts s buffer room code m r buffer room
+  start-long h l k = start-refused h (simp (lt-ltb 4096 (length m) l)) k
 
-  pub start-waits : {n : Sender} → 257 ≤ length room → length m ≤ 4096 → Sounds s n → n .out ≡ true →
-      Starts s buffer room code m (record { sender = s; outcome = outcome.Refused refusal.Start }) buffer room
+  pub start-waits : {n : Sender} → 257 ≤ length room → length m ≤ 4096 → Sounds s n → n .out ≡ true → Refuses s refusal.Start r →
+      Starts s buffer room code m r buffer room
   unfolding some stands
-  start-waits {n} h l k o = start-refused h (simp (le-ltb 4096 (length m) l, state-waits s n buffer k o))
+  start-waits {n} h l k o x = start-refused h (simp (le-ltb 4096 (length m) l, state-waits s n buffer k o)) x
 
 -- A message that was copied to the front of the buffer is out from its first byte on.
 abbrev starting : ℕ → List ℕ → Sender

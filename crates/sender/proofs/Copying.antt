@@ -11,7 +11,7 @@ use lib.Seq.{take-nil, take-take, length-take-le}
 use borrow.Author.Tests.{eq-eqb, ne-eqb, le-leb, lt-leb, lt-ltb, le-ltb}
 use Rattle.words.specs.Lists.{over, overAt, Copied}
 use Rattle.words.proofs.Lists.{part-over, copied-over, never}
-use Rattle.packet.specs.Opcodes.{host, reader, cmdAck, cmdNak, decodeData}
+use Rattle.packet.specs.Opcodes.{reader, cmdAck, cmdNak, decodeData}
 use Rattle.packet.specs.Packet.{bodyOf, seal, sourceAllowed, fieldsOf, written}
 use Rattle.packet.specs.Promises.{Fill}
 use Rattle.packet.specs.declared.Refusal.{Refusal}
@@ -20,7 +20,7 @@ use Rattle.packet.specs.declared.Built.the-variants as built
 use Rattle.packet.proofs.Writing.{length-body, length-seal, enough, filled}
 use Rattle.packet.proofs.Judge.{status-piece}
 use Rattle.sender.specs.Sender.{heedOf}
-use Rattle.sender.specs.Promises.{Idle, Heeds, Made, Sounds, Fails, Out, Writes, Copies, madeOf, soundOf, messageOf, restOf, presentOf}
+use Rattle.sender.specs.Promises.{Idle, Heeds, Made, Sounds, Refuses, movedTo, Moves, Fails, Out, Writes, Copies, madeOf, soundOf, messageOf, restOf, presentOf}
 use Rattle.sender.specs.declared.Sender.{Sender}
 use Rattle.sender.specs.declared.Heard.the-variants.{Ack, Nak, Nothing}
 use Rattle.sender.specs.declared.Outcome.the-variants as outcome
@@ -57,40 +57,46 @@ module _ {s : Sender} {b : Bool} (made : Made s b) where
   unfolding soundOf
   sound-idle e idle = record { is = simp (sym (made .is) ∙ e, idle .is) }
 
+pub refused-as : {s : Sender} {x : Refusal} → Refuses s x (record { sender = s; outcome = outcome.Refused x })
+refused-as = record { is = refl }
+
+pub moved-so : {s : Sender} {at resends copies : ℕ} → Moves s at resends copies (movedTo s at resends copies)
+moved-so = record { is = refl }
+
 pub fails-idle : {s i : Sender} → Idle true i → Fails s (record { sender = i; outcome = outcome.Failed (s .copies) })
 fails-idle idle = record { is = simp (idle .is) }
 
 -- ---- what is heeded
 
-module _ {o s t : ℕ} {d : List ℕ} where
-  pub heed-source : (s ≡ host → ⊥) → Heeds o s t d Nothing
+module _ {h o s t : ℕ} {d : List ℕ} where
+  pub heed-source : (s ≡ h → ⊥) → Heeds h o s t d Nothing
   unfolding heedOf
-  heed-source h = record { is = simp (ne-eqb s 4 h) }
+  heed-source n = record { is = simp (ne-eqb s h n) }
 
-  pub heed-status : s ≡ host → (t / 2 ≡ 0 → ⊥) → Heeds o s t d Nothing
+  pub heed-status : s ≡ h → (t / 2 ≡ 0 → ⊥) → Heeds h o s t d Nothing
   unfolding heedOf
-  heed-status e h = record { is = simp (eq-eqb s 4 e, ne-eqb (t / 2) 0 h) }
+  heed-status e n = record { is = simp (eq-eqb s h e, ne-eqb (t / 2) 0 n) }
 
-  module _ (e : s ≡ host) (z : t / 2 ≡ 0) where
-    pub heed-ack : o ≡ cmdAck → length d ≡ 0 → Heeds o s t d Ack
+  module _ (e : s ≡ h) (z : t / 2 ≡ 0) where
+    pub heed-ack : o ≡ cmdAck → length d ≡ 0 → Heeds h o s t d Ack
     unfolding heedOf
-    heed-ack f l = record { is = simp (eq-eqb s 4 e, eq-eqb (t / 2) 0 z, eq-eqb o 0xD0 f, eq-eqb (length d) 0 l) }
+    heed-ack f l = record { is = simp (eq-eqb s h e, eq-eqb (t / 2) 0 z, eq-eqb o 0xD0 f, eq-eqb (length d) 0 l) }
 
-    pub heed-ack-data : o ≡ cmdAck → (length d ≡ 0 → ⊥) → Heeds o s t d Nothing
+    pub heed-ack-data : o ≡ cmdAck → (length d ≡ 0 → ⊥) → Heeds h o s t d Nothing
     unfolding heedOf
-    heed-ack-data f l = record { is = simp (eq-eqb s 4 e, eq-eqb (t / 2) 0 z, eq-eqb o 0xD0 f, ne-eqb (length d) 0 l, ne-eqb o 0xD1 (λ g. omega arith)) }
+    heed-ack-data f l = record { is = simp (eq-eqb s h e, eq-eqb (t / 2) 0 z, eq-eqb o 0xD0 f, ne-eqb (length d) 0 l, ne-eqb o 0xD1 (λ g. omega arith)) }
 
-    pub heed-nak : (o ≡ cmdAck → ⊥) → o ≡ cmdNak → length d ≡ 1 → Heeds o s t d (Nak (getD d 0 0))
+    pub heed-nak : (o ≡ cmdAck → ⊥) → o ≡ cmdNak → length d ≡ 1 → Heeds h o s t d (Nak (getD d 0 0))
     unfolding heedOf
-    heed-nak n f l = record { is = simp (eq-eqb s 4 e, eq-eqb (t / 2) 0 z, ne-eqb o 0xD0 n, eq-eqb o 0xD1 f, eq-eqb (length d) 1 l) }
+    heed-nak n f l = record { is = simp (eq-eqb s h e, eq-eqb (t / 2) 0 z, ne-eqb o 0xD0 n, eq-eqb o 0xD1 f, eq-eqb (length d) 1 l) }
 
-    pub heed-nak-data : (o ≡ cmdAck → ⊥) → o ≡ cmdNak → (length d ≡ 1 → ⊥) → Heeds o s t d Nothing
+    pub heed-nak-data : (o ≡ cmdAck → ⊥) → o ≡ cmdNak → (length d ≡ 1 → ⊥) → Heeds h o s t d Nothing
     unfolding heedOf
-    heed-nak-data n f l = record { is = simp (eq-eqb s 4 e, eq-eqb (t / 2) 0 z, ne-eqb o 0xD0 n, eq-eqb o 0xD1 f, ne-eqb (length d) 1 l) }
+    heed-nak-data n f l = record { is = simp (eq-eqb s h e, eq-eqb (t / 2) 0 z, ne-eqb o 0xD0 n, eq-eqb o 0xD1 f, ne-eqb (length d) 1 l) }
 
-    pub heed-other : (o ≡ cmdAck → ⊥) → (o ≡ cmdNak → ⊥) → Heeds o s t d Nothing
+    pub heed-other : (o ≡ cmdAck → ⊥) → (o ≡ cmdNak → ⊥) → Heeds h o s t d Nothing
     unfolding heedOf
-    heed-other n m = record { is = simp (eq-eqb s 4 e, eq-eqb (t / 2) 0 z, ne-eqb o 0xD0 n, ne-eqb o 0xD1 m) }
+    heed-other n m = record { is = simp (eq-eqb s h e, eq-eqb (t / 2) 0 z, ne-eqb o 0xD0 n, ne-eqb o 0xD1 m) }
 
 -- ---- the copy
 

@@ -16,8 +16,8 @@ use Rattle.packet.specs.Opcodes.{reader, decodeData}
 use Rattle.packet.specs.Packet.{bodyOf, marked}
 use Rattle.packet.proofs.Marks.{marked-of}
 use Rattle.sender.specs.Pieces.{packetsOf}
-use Rattle.sender.specs.Sender.{SenderState, nothingOut, some, Sent, fails, resends, answered, senderStep}
-use Rattle.sender.specs.Promises.{idleControl, madeOf, soundOf, messageOf, outOf, stateOf, atAfter, controlAfter, Sounds, Out, restOf, presentOf}
+use Rattle.sender.specs.Sender.{SenderState, nothingOut, some, Sent, fails, resends, outStep, senderStep}
+use Rattle.sender.specs.Promises.{idleControl, madeOf, soundOf, messageOf, outOf, stateOf, atAfter, controlAfter, Sounds, Out, movedTo, Moves, restOf, presentOf}
 use Rattle.sender.specs.declared.Sender.{Sender}
 use Rattle.sender.specs.declared.Heard.{Heard}
 use Rattle.sender.specs.declared.Heard.the-variants.{Ack, Nak, TimeOut, Nothing}
@@ -72,19 +72,22 @@ state-idle f buffer = refl
 
 -- ---- a step with a message out
 
-pub step-is : (s : Sender) (buffer : List ℕ) (h : Heard) → s .out ≡ true → senderStep (outOf s buffer) h ≡ answered (presentOf s buffer 0 ∷ tailOf s buffer) (stands s buffer) h
+pub step-is : (s : Sender) (buffer : List ℕ) (h : Heard) → s .out ≡ true → senderStep (outOf s buffer) h ≡ outStep (presentOf s buffer 0 ∷ tailOf s buffer) (stands s buffer) h
 unfolding senderStep stands
 step-is s buffer h e = rw (out-is s buffer e) refl
 
 -- The control value that resends the present packet, and the one that goes on to the next.
 abbrev pub resending : Sender → Sender
-resending s = record { out = true; code = s .code; length = s .length; at = s .at; resends = s .resends + 1; copies = s .copies + 1; failed = s .failed }
+resending s = movedTo s (s .at) (s .resends + 1) (s .copies + 1)
 
 abbrev pub goingOn : Sender → Sender
-goingOn s = record { out = true; code = s .code; length = s .length; at = s .at + 250; resends = 0; copies = s .copies; failed = s .failed }
+goingOn s = movedTo s (s .at + 250) 0 (s .copies)
 
-pub again-out : {s : Sender} → Out s → s .resends < 2 → Out (resending s)
-again-out o h = let f = o .few in record { out = refl; fits = o .fits; inside = o .inside; tries = omega arith; few = omega arith }
+resending-out : {s : Sender} → Out s → s .resends < 2 → Out (resending s)
+resending-out o h = let f = o .few in record { out = refl; fits = o .fits; inside = o .inside; tries = omega arith; few = omega arith }
+
+pub again-out : {s n : Sender} → Out s → s .resends < 2 → Moves s (s .at) (s .resends + 1) (s .copies + 1) n → Out n
+again-out o h m = rw (m .is) (resending-out o h)
 
 -- Behind a piece that was cut, the rest of the message from 250 bytes further on.
 further : (s : Sender) (buffer : List ℕ) → restOf (goingOn s) buffer ≡ drop 250 (restOf s buffer)
@@ -103,8 +106,11 @@ rest-few : (s : Sender) (buffer : List ℕ) → length (restOf s buffer) ≤ s .
 unfolding restOf messageOf
 rest-few s buffer = simp (length-drop, length-take) (omega arith)
 
-pub onward-out : {s : Sender} → Out s → 250 < s .length - s .at → Out (goingOn s)
-onward-out o h = let f = o .few in let t = o .tries in record { out = refl; fits = o .fits; inside = omega arith; tries = omega arith; few = omega arith }
+going-out : {s : Sender} → Out s → 250 < s .length - s .at → Out (goingOn s)
+going-out o h = let f = o .few in let t = o .tries in record { out = refl; fits = o .fits; inside = omega arith; tries = omega arith; few = omega arith }
+
+pub onward-out : {s n : Sender} → Out s → 250 < s .length - s .at → Moves s (s .at + 250) 0 (s .copies) n → Out n
+onward-out o h m = rw (m .is) (going-out o h)
 
 pub same-out : (s : Sender) → s .out ≡ true → s ≡ record { out = true; code = s .code; length = s .length; at = s .at; resends = s .resends; copies = s .copies; failed = s .failed }
 same-out s e = ap (λ (b : Bool). record { out = b; code = s .code; length = s .length; at = s .at; resends = s .resends; copies = s .copies; failed = s .failed }) e
@@ -182,7 +188,7 @@ module _ (s : Sender) (buffer : List ℕ) (o : Out s) where
   resent-stands : (p : List ℕ) (h : Heard) (d : Bool) → ltb (s .resends) 2 ≡ d → atAfter (s .at) h ≡ s .at → StandsAfter h (resends p (stands s buffer))
   unfolding resends fails stands presentOf restOf messageOf tailOf
   resent-stands p h true e a =
-      stands-next s buffer h (resends p (stands s buffer)) (resending s) (again-out o (ltb-true (s .resends) 2 e)) (rw a refl) (simp e)
+      stands-next s buffer h (resends p (stands s buffer)) (resending s) (resending-out o (ltb-true (s .resends) 2 e)) (rw a refl) (simp e)
   resent-stands p h false e a = stands-end s buffer h (resends p (stands s buffer)) true (simp e)
 
   denied-stands : (p : List ℕ) (cause : ℕ) (d : Bool) → StandsAfter (Nak cause) (pick d (resends p (stands s buffer)) (fails (stands s buffer)))
@@ -190,28 +196,28 @@ module _ (s : Sender) (buffer : List ℕ) (o : Out s) where
   denied-stands p cause true = resent-stands p (Nak cause) (ltb (s .resends) 2) refl refl
   denied-stands p cause false = stands-end s buffer (Nak cause) (fails (stands s buffer)) true refl
 
-  onward-stands : (p : List ℕ) (d : Bool) → ltb 250 (length (restOf s buffer)) ≡ d → StandsAfter Ack (answered (p ∷ tailOf s buffer) (stands s buffer) Ack)
-  unfolding answered atAfter stands
+  onward-stands : (p : List ℕ) (d : Bool) → ltb 250 (length (restOf s buffer)) ≡ d → StandsAfter Ack (outStep (p ∷ tailOf s buffer) (stands s buffer) Ack)
+  unfolding outStep atAfter stands
   onward-stands p true e =
       let cut = ltb-true 250 (length (restOf s buffer)) e in
       let few = rest-few s buffer in
-      stands-next s buffer Ack (answered (p ∷ tailOf s buffer) (stands s buffer) Ack) (goingOn s) (onward-out o (omega arith)) refl (rw (tail-cut s buffer cut) refl)
+      stands-next s buffer Ack (outStep (p ∷ tailOf s buffer) (stands s buffer) Ack) (goingOn s) (going-out o (omega arith)) refl (rw (tail-cut s buffer cut) refl)
   onward-stands p false e =
       let end = tail-last s buffer (ltb-false 250 (length (restOf s buffer)) e) in
-      stands-end s buffer Ack (answered (p ∷ tailOf s buffer) (stands s buffer) Ack) false (rw end refl)
+      stands-end s buffer Ack (outStep (p ∷ tailOf s buffer) (stands s buffer) Ack) false (rw end refl)
 
-  answered-stands : (h : Heard) → StandsAfter h (answered (presentOf s buffer 0 ∷ tailOf s buffer) (stands s buffer) h)
-  unfolding answered atAfter
-  answered-stands Ack = onward-stands (presentOf s buffer 0) (ltb 250 (length (restOf s buffer))) refl
-  answered-stands (Nak cause) = denied-stands (presentOf s buffer 0) cause (eqb cause 1)
-  answered-stands TimeOut = resent-stands (presentOf s buffer 0) TimeOut (ltb (s .resends) 2) refl refl
-  answered-stands Nothing = stands-next s buffer Nothing (answered (presentOf s buffer 0 ∷ tailOf s buffer) (stands s buffer) Nothing) s o (same-out s (o .out)) refl
+  out-stands : (h : Heard) → StandsAfter h (outStep (presentOf s buffer 0 ∷ tailOf s buffer) (stands s buffer) h)
+  unfolding outStep atAfter
+  out-stands Ack = onward-stands (presentOf s buffer 0) (ltb 250 (length (restOf s buffer))) refl
+  out-stands (Nak cause) = denied-stands (presentOf s buffer 0) cause (eqb cause 1)
+  out-stands TimeOut = resent-stands (presentOf s buffer 0) TimeOut (ltb (s .resends) 2) refl refl
+  out-stands Nothing = stands-next s buffer Nothing (outStep (presentOf s buffer 0 ∷ tailOf s buffer) (stands s buffer) Nothing) s o (same-out s (o .out)) refl
 
 stands-by : (s n : Sender) (buffer : List ℕ) (h : Heard) (d : Bool) → Sounds s n → n .out ≡ d →
     stateOf (controlAfter n h (senderStep (outOf n buffer) h)) buffer ≡ senderStep (outOf n buffer) h .next
-unfolding outOf senderStep answered
-stands-by s n buffer h true k e = rw (step-is n buffer h e) (answered-stands n buffer (sounds-out k e) h)
-stands-by s n buffer h false k e = simp e (stands-end n buffer h (answered [] (nothingOut (n .failed)) h) (n .failed) refl)
+unfolding outOf senderStep outStep
+stands-by s n buffer h true k e = rw (step-is n buffer h e) (out-stands n buffer (sounds-out k e) h)
+stands-by s n buffer h false k e = simp e (stands-end n buffer h (outStep [] (nothingOut (n .failed)) h) (n .failed) refl)
 
 -- Whatever is heard, and whatever control value a caller gives.
 pub control-stands : (s : Sender) (buffer : List ℕ) (h : Heard) →

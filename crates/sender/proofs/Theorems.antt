@@ -21,7 +21,7 @@ use Rattle.packet.specs.declared.Refusal.{Refusal}
 use Rattle.packet.proofs.Theorems.{Body, body-of, sealed-check}
 use Rattle.packet.proofs.Writing.{length-seal}
 use Rattle.sender.specs.Pieces.{piecesOf, bodiesOf, packetsOf}
-use Rattle.sender.specs.Sender.{SenderState, nothingOut, ignores, some, waits, Sent, copy, delivered, failed, refused, begins, startStep, fails, resends, answered, senderStep}
+use Rattle.sender.specs.Sender.{SenderState, nothingOut, ignores, some, waits, Sent, copy, delivered, failed, refused, begins, startStep, fails, resends, outStep, senderStep}
 use Rattle.sender.specs.Promises.{nameOf}
 use Rattle.sender.specs.declared.Heard.{Heard}
 use Rattle.sender.specs.declared.Heard.the-variants.{Ack, Nak, TimeOut, Nothing}
@@ -169,7 +169,7 @@ start-refused s code m e = simp e
 acks : (p : List ℕ) (ps : List (List ℕ)) (r c : ℕ) (f : Bool) →
     through senderStep (record { queue = p ∷ ps; resends = r; copies = c; failed = f }) (replicate (length (p ∷ ps)) Ack)
     ≡ record { next = nothingOut false; told = map copy ps ++ (delivered c ∷ []) }
-unfolding through after senderStep answered
+unfolding through after senderStep outStep
 acks p [] r c f = refl
 acks p (q ∷ ps) r c f = ap (after (copy q ∷ [])) (acks q ps 0 c f)
 
@@ -192,8 +192,8 @@ pub data Again : Heard → Type 0 where
   nak : Again (Nak 1)
   time : Again TimeOut
 
-pub again-step : {h : Heard} (p : List ℕ) (ps : List (List ℕ)) (s : SenderState) → Again h → answered (p ∷ ps) s h ≡ resends p s
-unfolding answered
+pub again-step : {h : Heard} (p : List ℕ) (ps : List (List ℕ)) (s : SenderState) → Again h → outStep (p ∷ ps) s h ≡ resends p s
+unfolding outStep
 again-step p ps s nak = refl
 again-step p ps s time = refl
 
@@ -214,7 +214,7 @@ unfolding resends
 fails-now true p s h = simp (le-ltb (s .resends) 2 h)
 fails-now false p s h = refl
 
-twice-by : {h : Heard} {p : List ℕ} {q ps : List (List ℕ)} (s : SenderState) → q ≡ p ∷ ps → 2 ≤ s .resends → Again h → answered q s h ≡ fails s
+twice-by : {h : Heard} {p : List ℕ} {q ps : List (List ℕ)} (s : SenderState) → q ≡ p ∷ ps → 2 ≤ s .resends → Again h → outStep q s h ≡ fails s
 twice-by {p = p} {ps = ps} s e l a = rw e (again-step p ps s a ∙ fails-now true p s l)
 
 -- So it is wherever the present packet was resent twice.
@@ -226,8 +226,8 @@ kept-by : (p : List ℕ) (ps : List (List ℕ)) (s : SenderState) (d : Done Send
 unfolding fails
 kept-by p ps s d f e = let q = ap (λ (x : Done SenderState Sent). x .next .queue) f in never (cc)
 
-no-third-by : (q : List (List ℕ)) (s : SenderState) (h : Heard) → 2 ≤ s .resends → answered q s h .next .queue ≡ q → answered q s h .told ≡ []
-unfolding answered
+no-third-by : (q : List (List ℕ)) (s : SenderState) (h : Heard) → 2 ≤ s .resends → outStep q s h .next .queue ≡ q → outStep q s h .told ≡ []
+unfolding outStep
 no-third-by [] s h l e = refl
 no-third-by (p ∷ []) s Ack l e = never (cc)
 no-third-by (p ∷ q ∷ ps) s Ack l e = absurd (let n = ap length e in omega arith)
@@ -245,8 +245,8 @@ unfolding resends fails
 two-at-most true p s e = let l = ltb-true (s .resends) 2 e in simp e (omega arith)
 two-at-most false p s e = simp e (omega arith)
 
-tries-by : (q : List (List ℕ)) (s : SenderState) (h : Heard) → s .resends ≤ 2 → answered q s h .next .resends ≤ 2
-unfolding answered fails
+tries-by : (q : List (List ℕ)) (s : SenderState) (h : Heard) → s .resends ≤ 2 → outStep q s h .next .resends ≤ 2
+unfolding outStep fails
 tries-by [] s h l = l
 tries-by (p ∷ []) s Ack l = omega arith
 tries-by (p ∷ q ∷ ps) s Ack l = omega arith
@@ -265,8 +265,8 @@ tries-kept s h l = tries-by (s .queue) s h l
 
 -- ---- nothing out
 
-rests-by : (q : List (List ℕ)) (s : SenderState) (h : Heard) → some q ≡ false → answered q s h ≡ ignores s
-unfolding answered some
+rests-by : (q : List (List ℕ)) (s : SenderState) (h : Heard) → some q ≡ false → outStep q s h ≡ ignores s
+unfolding outStep some
 rests-by [] s h e = refl
 rests-by (p ∷ ps) s h e = never (cc)
 
@@ -335,7 +335,7 @@ module _ (p : List ℕ) (ps : List (List ℕ)) (r c : ℕ) (f : Bool) (hs : List
   nak-counts false = fails-counts present hs
 
 counts-by : (q : List (List ℕ)) (r c : ℕ) (f : Bool) (hs : List Heard) → Each Plain q → Counts c (through senderStep (record { queue = q; resends = r; copies = c; failed = f }) hs .told)
-unfolding through after senderStep answered present some
+unfolding through after senderStep outStep present some
 counts-by q r c f [] k = still
 counts-by [] r c f (h ∷ hs) k = counts-by [] r c f hs k
 counts-by (p ∷ []) r c f (Ack ∷ hs) k = rw (rests-long (nothingOut false) hs refl) whole
@@ -373,8 +373,8 @@ resends-unrefused p s b false f e = never (cc)
 resends-unrefused p s true true f e = let k = simp f at e in never (cc)
 resends-unrefused p s false true f e = let k = simp f at e in never (cc)
 
-unrefused-by : (q : List (List ℕ)) (s : SenderState) (h : Heard) {x : Refusal} → nameOf (answered q s h .told) ≡ outcome.Refused x → ⊥
-unfolding answered nameOf
+unrefused-by : (q : List (List ℕ)) (s : SenderState) (h : Heard) {x : Refusal} → nameOf (outStep q s h .told) ≡ outcome.Refused x → ⊥
+unfolding outStep nameOf
 unrefused-by [] s h e = never (cc)
 unrefused-by (p ∷ []) s Ack e = never (cc)
 unrefused-by (p ∷ q ∷ ps) s Ack e = never (cc)

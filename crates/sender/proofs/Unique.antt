@@ -19,7 +19,7 @@ pub hear-unique : {s : Sender} {buffer room room₁ room₂ : List ℕ} {h : Hea
     Hears s buffer room h r room₁ → Hears s buffer room h r′ room₂ → (r ≡ r′) × (room₁ ≡ room₂)
 hear-unique p q = (p .is ∙ sym (q .is), p .room-is ∙ sym (q .room-is))
 
-pub heed-unique : {opcode source status : ℕ} {carried : List ℕ} {r r′ : Heard} → Heeds opcode source status carried r → Heeds opcode source status carried r′ → r ≡ r′
+pub heed-unique : {heeded opcode source status : ℕ} {carried : List ℕ} {r r′ : Heard} → Heeds heeded opcode source status carried r → Heeds heeded opcode source status carried r′ → r ≡ r′
 heed-unique p q = p .is ∙ sym (q .is)
 
 pub waits-unique : {s : Sender} {r r′ : Bool} → Waits s r → Waits s r′ → r ≡ r′

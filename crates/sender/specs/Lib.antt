@@ -1,3 +1,4 @@
 pub mod Pieces
 pub mod Promises
+pub mod Refused
 pub mod Sender

@@ -1,4 +1,4 @@
--- Document 01, 'Sender': copies and resends of the packets of one message.
+-- §10: copies and resends of the packets of one message.
 use Prim.Native.Nat.{ℕ, _+_, _/_}
 use mathlib.Core.Bool.{Bool, true, false}
 use mathlib.Core.List.{List, [], _∷_}
@@ -6,8 +6,9 @@ use lib.Dec.{eqb, ltb}
 use lib.ListN.{length, getD}
 use Rattle.words.specs.Lists.{pick, both, either}
 use Rattle.words.specs.Machine.{Done}
-use Rattle.packet.specs.Opcodes.{host, cmdAck, cmdNak}
+use Rattle.packet.specs.Opcodes.{cmdAck, cmdNak}
 use Rattle.packet.specs.Packet.{marked}
+use Rattle.packet.specs.Sizes.{messageSize}
 use Rattle.packet.specs.declared.Refusal.{Refusal}
 use Rattle.packet.specs.declared.Refusal.the-variants.{Start}
 use Rattle.sender.specs.Pieces.{packetsOf}
@@ -47,41 +48,45 @@ waits s = some (s .queue)
 unfoldable pub gapDue : SenderState → Bool
 gapDue s = s .failed
 
--- A start: 11 for a message over 4,096 bytes, or one still out; else the first copy.
+-- A start: 11 for a message that is too long, or one still out; else the first copy.
 unfoldable pub begins : List (List ℕ) → SenderState → Done SenderState Sent
 begins [] s = ignores s
 begins (p ∷ ps) s = record { next = record { queue = p ∷ ps; resends = 0; copies = 0; failed = false }; told = copy p ∷ [] }
 
 unfoldable pub startStep : SenderState → ℕ → List ℕ → Done SenderState Sent
 startStep s code m =
-    pick (either (ltb 4096 (length m)) (waits s)) (record { next = s; told = refused Start ∷ [] }) (begins (packetsOf code m) s)
+    pick (either (ltb messageSize (length m)) (waits s)) (record { next = s; told = refused Start ∷ [] }) (begins (packetsOf code m) s)
 
--- NAK 1 or a time-out resends with bit 0 set, at most twice; then failed.
+-- How often a packet is resent at most.
+abbrev pub resendLimit : ℕ
+resendLimit = 2
+
+-- NAK 1 or a time-out resends with bit 0 set, so often; then failed.
 unfoldable pub fails : SenderState → Done SenderState Sent
 fails s = record { next = nothingOut true; told = failed (s .copies) ∷ [] }
 
 unfoldable pub resends : List ℕ → SenderState → Done SenderState Sent
 resends p s =
-    pick (ltb (s .resends) 2)
+    pick (ltb (s .resends) resendLimit)
     (record { next = record { queue = s .queue; resends = s .resends + 1; copies = s .copies + 1; failed = s .failed }; told = copy (marked p) ∷ [] })
     (fails s)
 
 -- ACK goes on to the next packet or reports delivered. Another NAK cause fails at once. With nothing out, all of these do nothing.
-unfoldable pub answered : List (List ℕ) → SenderState → Heard → Done SenderState Sent
-answered [] s h = ignores s
-answered (p ∷ []) s Ack = record { next = nothingOut false; told = delivered (s .copies) ∷ [] }
-answered (p ∷ q ∷ ps) s Ack = record { next = record { queue = q ∷ ps; resends = 0; copies = s .copies; failed = s .failed }; told = copy q ∷ [] }
-answered (p ∷ ps) s (Nak cause) = pick (eqb cause 1) (resends p s) (fails s)
-answered (p ∷ ps) s TimeOut = resends p s
-answered (p ∷ ps) s Nothing = ignores s
+unfoldable pub outStep : List (List ℕ) → SenderState → Heard → Done SenderState Sent
+outStep [] s h = ignores s
+outStep (p ∷ []) s Ack = record { next = nothingOut false; told = delivered (s .copies) ∷ [] }
+outStep (p ∷ q ∷ ps) s Ack = record { next = record { queue = q ∷ ps; resends = 0; copies = s .copies; failed = s .failed }; told = copy q ∷ [] }
+outStep (p ∷ ps) s (Nak cause) = pick (eqb cause 1) (resends p s) (fails s)
+outStep (p ∷ ps) s TimeOut = resends p s
+outStep (p ∷ ps) s Nothing = ignores s
 
 unfoldable pub senderStep : SenderState → Heard → Done SenderState Sent
-senderStep s h = answered (s .queue) s h
+senderStep s h = outStep (s .queue) s h
 
--- The sender heeds only a host's ACK without data or NAK with one byte, status 0 or 1; others do nothing.
-unfoldable pub heedOf : ℕ → ℕ → ℕ → List ℕ → Heard
-heedOf opcode source status carried =
-    pick (both (eqb source host) (eqb (status / 2) 0))
+-- Of the source that is heeded, only ACK without data and NAK with one byte, status 0 or 1; others do nothing.
+unfoldable pub heedOf : ℕ → ℕ → ℕ → ℕ → List ℕ → Heard
+heedOf heeded opcode source status carried =
+    pick (both (eqb source heeded) (eqb (status / 2) 0))
     (pick (both (eqb opcode cmdAck) (eqb (length carried) 0)) Ack
     (pick (both (eqb opcode cmdNak) (eqb (length carried) 1)) (Nak (getD carried 0 0)) Nothing))
     Nothing

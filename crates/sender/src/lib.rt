@@ -1,7 +1,8 @@
 // The reader's sender: a message cut into packets, each copied to the line until it is acknowledged.
 use packet::Built;
 use packet::DECODE_DATA;
-use packet::HOST;
+use packet::MESSAGE_SIZE;
+use packet::PACKET_SIZE;
 use packet::READER;
 use packet::Refusal;
 ghost use Prim.Native.Nat.{_+_, _≤_, _<_};
@@ -10,14 +11,14 @@ ghost use mathlib.Core.List.{_∷_};
 ghost use lib.ListN.{length};
 ghost use Rattle.packet.specs.Opcodes.{decodeData, reader};
 ghost use Rattle.packet.specs.Packet.{bodyOf};
-ghost use Rattle.sender.specs.Promises.{Idle, Starts, Hears, Waits, Heeds, Sounds, Made, Fails, Out, Writes, Copies, Answers};
+ghost use Rattle.packet.specs.Sizes.{packetSize, messageSize};
+ghost use Rattle.sender.specs.Pieces.{pieceSize};
+ghost use Rattle.sender.specs.Promises.{Idle, Starts, Hears, Waits, Heeds, Sounds, Made, Refuses, Moves, Fails, Out, Writes, Copies, OutSteps};
 
-// The longest message, and the message buffer.
-pub const MESSAGE: usize = 4096;
-// The room for a copy: the longest packet with its checksum.
-pub const ROOM: usize = 257;
-// What a piece holds.
-const PIECE: usize = 250;
+// What a piece holds: the data of a packet without the code type.
+const PIECE_SIZE: usize = packet::DATA_SIZE - 1;
+// How often a packet is resent at most.
+const RESEND_LIMIT: usize = 2;
 
 // The sender's control value. `at` is where the present piece starts in the message buffer; `resends` counts those of the
 // present packet, `copies` the marked copies of the message.
@@ -72,31 +73,22 @@ pub fn idle(failed: bool) -> Sender
 // Starts a message: it is copied, and the first copy of its first packet is written.
 pub fn start(
     sender: Sender,
-    buffer: &mut [u8; MESSAGE],
+    buffer: &mut [u8; MESSAGE_SIZE],
     room: &mut [u8],
     code: u8,
     message: &[u8],
 ) -> Sending
     ensures { λ r. ⌜ Starts sender (now (buffer .entry)) (now (room .entry)) code (now (message .entry)) r (now (buffer .exit)) (now (room .exit)) ⌝ }
 {
-    if room.len() < ROOM {
-        return Sending {
-            sender,
-            outcome: Outcome::Refused(Refusal::Room),
-        };
+    if room.len() < PACKET_SIZE {
+        return refused(sender, Refusal::Room);
     }
-    if MESSAGE < message.len() {
-        return Sending {
-            sender,
-            outcome: Outcome::Refused(Refusal::Start),
-        };
+    if MESSAGE_SIZE < message.len() {
+        return refused(sender, Refusal::Start);
     }
     let now = sound(sender);
     if now.out {
-        return Sending {
-            sender,
-            outcome: Outcome::Refused(Refusal::Start),
-        };
+        return refused(sender, Refusal::Start);
     }
     words::copy(message, buffer);
     let next = Sender {
@@ -112,18 +104,15 @@ pub fn start(
 }
 
 // One thing heard of the host.
-pub fn hear(sender: Sender, buffer: &[u8; MESSAGE], room: &mut [u8], heard: Heard) -> Sending
+pub fn hear(sender: Sender, buffer: &[u8; MESSAGE_SIZE], room: &mut [u8], heard: Heard) -> Sending
     ensures { λ r. ⌜ Hears sender (now (buffer .entry)) (now (room .entry)) heard r (now (room .exit)) ⌝ }
 {
-    if room.len() < ROOM {
-        return Sending {
-            sender,
-            outcome: Outcome::Refused(Refusal::Room),
-        };
+    if room.len() < PACKET_SIZE {
+        return refused(sender, Refusal::Room);
     }
     let now = sound(sender);
     if now.out {
-        return answered(now, buffer, room, heard);
+        return out_step(now, buffer, room, heard);
     }
     Sending {
         sender: now,
@@ -139,11 +128,11 @@ pub fn waits(sender: Sender) -> bool
     now.out
 }
 
-// What the sender heeds of a packet on the line: a host's ACK without data or NAK with one byte, status 0 or 1.
-pub fn heed(opcode: u8, source: u8, status: u8, data: &[u8]) -> Heard
-    ensures { λ r. ⌜ Heeds opcode source status (now («data» .entry)) r ⌝ }
+// What a sender heeds of a packet on the line: an ACK without data or a NAK with one byte, status 0 or 1, of the source that it heeds.
+pub fn heed(heeded: u8, opcode: u8, source: u8, status: u8, data: &[u8]) -> Heard
+    ensures { λ r. ⌜ Heeds heeded opcode source status (now («data» .entry)) r ⌝ }
 {
-    if source != HOST {
+    if source != heeded {
         return Heard::Nothing;
     }
     if status / 2 != 0 {
@@ -163,6 +152,16 @@ pub fn heed(opcode: u8, source: u8, status: u8, data: &[u8]) -> Heard
     Heard::Nothing
 }
 
+// What is refused changes nothing.
+fn refused(sender: Sender, refusal: Refusal) -> Sending
+    ensures { λ r. ⌜ Refuses sender refusal r ⌝ }
+{
+    Sending {
+        sender,
+        outcome: Outcome::Refused(refusal),
+    }
+}
+
 // Any control value is taken: one that no run leaves is not out.
 fn sound(sender: Sender) -> Sender
     ensures { λ r. ⌜ Sounds sender r ⌝ }
@@ -173,15 +172,15 @@ fn sound(sender: Sender) -> Sender
     idle(sender.failed)
 }
 
-// Whether a message is out as a run leaves it: within the buffer, with at most two marked copies of each packet.
+// Whether a message is out as a run leaves it: within the buffer, with no more marked copies than its packets can have had.
 fn made(sender: Sender) -> bool
     ensures { λ r. ⌜ Made sender r ⌝ }
 {
     if sender.out {
-        if sender.length <= MESSAGE {
+        if sender.length <= MESSAGE_SIZE {
             if sender.at <= sender.length {
-                if sender.resends <= 2 {
-                    return sender.copies <= sender.at / PIECE * 2 + sender.resends;
+                if sender.resends <= RESEND_LIMIT {
+                    return sender.copies <= sender.at / PIECE_SIZE * RESEND_LIMIT + sender.resends;
                 }
             }
         }
@@ -189,9 +188,10 @@ fn made(sender: Sender) -> bool
     false
 }
 
-fn answered(sender: Sender, buffer: &[u8], room: &mut [u8], heard: Heard) -> Sending
-    requires { ⌜ Out sender × (length (now buffer) ≡ 4096) × (257 ≤ length (now room)) ⌝ }
-    ensures { λ r. ⌜ Answers sender (now (buffer .entry)) (now (room .entry)) heard r (now (room .exit)) ⌝ }
+// One step with a message out.
+fn out_step(sender: Sender, buffer: &[u8], room: &mut [u8], heard: Heard) -> Sending
+    requires { ⌜ Out sender × (length (now buffer) ≡ messageSize) × (packetSize ≤ length (now room)) ⌝ }
+    ensures { λ r. ⌜ OutSteps sender (now (buffer .entry)) (now (room .entry)) heard r (now (room .exit)) ⌝ }
 {
     match heard {
         Heard::Ack => onward(sender, buffer, room),
@@ -206,19 +206,11 @@ fn answered(sender: Sender, buffer: &[u8], room: &mut [u8], heard: Heard) -> Sen
 
 // ACK goes on to the next packet or reports delivered.
 fn onward(sender: Sender, buffer: &[u8], room: &mut [u8]) -> Sending
-    requires { ⌜ Out sender × (length (now buffer) ≡ 4096) × (257 ≤ length (now room)) ⌝ }
-    ensures { λ r. ⌜ Answers sender (now (buffer .entry)) (now (room .entry)) Heard.Ack r (now (room .exit)) ⌝ }
+    requires { ⌜ Out sender × (length (now buffer) ≡ messageSize) × (packetSize ≤ length (now room)) ⌝ }
+    ensures { λ r. ⌜ OutSteps sender (now (buffer .entry)) (now (room .entry)) Heard.Ack r (now (room .exit)) ⌝ }
 {
-    if PIECE < sender.length - sender.at {
-        let next = Sender {
-            out: true,
-            code: sender.code,
-            length: sender.length,
-            at: sender.at + PIECE,
-            resends: 0,
-            copies: sender.copies,
-            failed: sender.failed,
-        };
+    if PIECE_SIZE < sender.length - sender.at {
+        let next = moved(sender, sender.at + PIECE_SIZE, 0, sender.copies);
         return present(next, buffer, room, 0);
     }
     Sending {
@@ -229,8 +221,8 @@ fn onward(sender: Sender, buffer: &[u8], room: &mut [u8]) -> Sending
 
 // NAK 1 resends, another cause fails at once.
 fn denied(sender: Sender, buffer: &[u8], room: &mut [u8], cause: u8) -> Sending
-    requires { ⌜ Out sender × (length (now buffer) ≡ 4096) × (257 ≤ length (now room)) ⌝ }
-    ensures { λ r. ⌜ Answers sender (now (buffer .entry)) (now (room .entry)) (Heard.Nak cause) r (now (room .exit)) ⌝ }
+    requires { ⌜ Out sender × (length (now buffer) ≡ messageSize) × (packetSize ≤ length (now room)) ⌝ }
+    ensures { λ r. ⌜ OutSteps sender (now (buffer .entry)) (now (room .entry)) (Heard.Nak cause) r (now (room .exit)) ⌝ }
 {
     if cause == 1 {
         return again(sender, buffer, room);
@@ -238,24 +230,31 @@ fn denied(sender: Sender, buffer: &[u8], room: &mut [u8], cause: u8) -> Sending
     failed(sender)
 }
 
-// The present packet again, with bit 0 set, at most twice; then failed.
+// The present packet again, with bit 0 set, as often as it may be; then failed.
 fn again(sender: Sender, buffer: &[u8], room: &mut [u8]) -> Sending
-    requires { ⌜ Out sender × (length (now buffer) ≡ 4096) × (257 ≤ length (now room)) ⌝ }
-    ensures { λ r. ⌜ Answers sender (now (buffer .entry)) (now (room .entry)) Heard.TimeOut r (now (room .exit)) ⌝ }
+    requires { ⌜ Out sender × (length (now buffer) ≡ messageSize) × (packetSize ≤ length (now room)) ⌝ }
+    ensures { λ r. ⌜ OutSteps sender (now (buffer .entry)) (now (room .entry)) Heard.TimeOut r (now (room .exit)) ⌝ }
 {
-    if sender.resends < 2 {
-        let next = Sender {
-            out: true,
-            code: sender.code,
-            length: sender.length,
-            at: sender.at,
-            resends: sender.resends + 1,
-            copies: sender.copies + 1,
-            failed: sender.failed,
-        };
+    if sender.resends < RESEND_LIMIT {
+        let next = moved(sender, sender.at, sender.resends + 1, sender.copies + 1);
         return present(next, buffer, room, 1);
     }
     failed(sender)
+}
+
+// The same message with its present piece at this place.
+fn moved(sender: Sender, at: usize, resends: usize, copies: usize) -> Sender
+    ensures { λ r. ⌜ Moves sender at resends copies r ⌝ }
+{
+    Sender {
+        out: true,
+        code: sender.code,
+        length: sender.length,
+        at,
+        resends,
+        copies,
+        failed: sender.failed,
+    }
 }
 
 fn failed(sender: Sender) -> Sending
@@ -269,13 +268,13 @@ fn failed(sender: Sender) -> Sending
 
 // A copy of the present packet, marked or not.
 fn present(sender: Sender, buffer: &[u8], room: &mut [u8], mark: u8) -> Sending
-    requires { ⌜ Out sender × (length (now buffer) ≡ 4096) × (257 ≤ length (now room)) × (mark < 2) ⌝ }
+    requires { ⌜ Out sender × (length (now buffer) ≡ messageSize) × (packetSize ≤ length (now room)) × (mark < 2) ⌝ }
     ensures { λ r. ⌜ Copies sender (now (buffer .entry)) mark (now (room .entry)) r (now (room .exit)) ⌝ }
 {
     let from = sender.at;
     let end = sender.length;
-    if PIECE < end - from {
-        let cut = from + PIECE;
+    if PIECE_SIZE < end - from {
+        let cut = from + PIECE_SIZE;
         return copy(sender, &buffer[from..cut], room, mark + 2);
     }
     copy(sender, &buffer[from..end], room, mark)
@@ -283,7 +282,7 @@ fn present(sender: Sender, buffer: &[u8], room: &mut [u8], mark: u8) -> Sending
 
 // The type and the piece go into the room from the fifth byte on, then header and checksum around them.
 fn copy(sender: Sender, piece: &[u8], room: &mut [u8], status: u8) -> Sending
-    requires { ⌜ (length (now piece) ≤ 250) × (257 ≤ length (now room)) × (status < 4) ⌝ }
+    requires { ⌜ (length (now piece) ≤ pieceSize) × (packetSize ≤ length (now room)) × (status < 4) ⌝ }
     ensures { λ r. ⌜ Writes sender (bodyOf decodeData reader status (sender .code ∷ now (piece .entry))) (now (room .entry)) r (now (room .exit)) ⌝ }
 {
     room[4] = sender.code;
@@ -293,9 +292,6 @@ fn copy(sender: Sender, piece: &[u8], room: &mut [u8], status: u8) -> Sending
             sender,
             outcome: Outcome::Copy(size),
         },
-        Built::Refused(refusal) => Sending {
-            sender,
-            outcome: Outcome::Refused(refusal),
-        },
+        Built::Refused(refusal) => refused(sender, refusal),
     }
 }

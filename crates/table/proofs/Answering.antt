@@ -1,6 +1,6 @@
 -- What the pair writer leaves in its room: one law for each `return`, and what its loops keep. The numbers answered so far are those
 -- whose rows are marked, since a row's number and its place determine each other. Assumes nothing.
-use Prim.Native.Nat.{ℕ, zero, suc, _+_, _-_, _≤_, _<_}
+use Prim.Native.Nat.{ℕ, zero, suc, _+_, _-_, _*_, _≤_, _<_}
 use mathlib.Core.Path.{_≡_, refl, sym, ap, _∙_}
 use mathlib.Core.Bool.{Bool, true, false, not}
 use mathlib.Core.List.{List, [], _∷_, _++_, append-assoc}
@@ -13,12 +13,12 @@ use borrow.Author.Tests.{eq-eqb, ne-eqb, lt-ltb, le-ltb, ltb-true, eqb-true, eqb
 use Rattle.words.specs.Lists.{pick, both, either, over, overAt}
 use Rattle.words.proofs.Lists.{length-overAt, part-over, set-over, both-left, both-right, never, either-true, over-behind}
 use Rattle.packet.specs.declared.Refusal.the-variants.{Room}
-use Rattle.table.specs.Rows.{rows, placeOf, supported}
+use Rattle.table.specs.Rows.{parameterCount, pairsSize, rows, placeOf, supported}
 use Rattle.table.specs.Table.{Values, valueOf, member, askedFor, numbersOf, answeredNumbers, pairBytes, answerData}
 use Rattle.table.specs.Promises.{Answers, Place, AsksAll, AllPairs, AskedPairs, Fits, Asks, asks, marks, showing, valuesOf}
 use Rattle.table.specs.declared.Table.{Table}
 use Rattle.table.specs.declared.Written.the-variants.{Bytes, Refused}
-use Rattle.table.proofs.Finding.{rowCount, many, place-at, same-place}
+use Rattle.table.proofs.Finding.{many, place-at, same-place}
 
 -- ---- `asks_all`
 
@@ -144,11 +144,11 @@ marks-most [] = omega arith
 marks-most (true ∷ bs) = let r = marks-most bs in omega arith
 marks-most (false ∷ bs) = let r = marks-most bs in omega arith
 
-pub fits-most : {seen : List Bool} {at : ℕ} {room : List ℕ} → Fits seen at room → at ≤ rowCount + rowCount
+pub fits-most : {seen : List Bool} {at : ℕ} {room : List ℕ} → Fits seen at room → at ≤ 2 * parameterCount
 fits-most {seen} f = let m = marks-most seen in omega (arith, f .at-is, f .seen-is)
 
 -- As long as a row is not marked there is room for its pair.
-left-by : (seen : List Bool) (at row : ℕ) (room : List ℕ) → Fits seen at room → row < rowCount → getD seen row false ≡ false → at + 2 ≤ length room
+left-by : (seen : List Bool) (at row : ℕ) (room : List ℕ) → Fits seen at room → row < parameterCount → getD seen row false ≡ false → at + 2 ≤ length room
 left-by seen at row room f h e =
     let s = marks-set seen row (omega (arith, f .seen-is)) e in
     let m = marks-most (set seen row true) in
@@ -156,27 +156,27 @@ left-by seen at row room f h e =
     omega (arith, f .at-is, f .room-is, f .seen-is)
 
 module _ {seen : List Bool} {at number row : ℕ} {room : List ℕ} (p : Place number row) where
-  pub room-left : Fits seen at room → row < rowCount → getD seen row false ≡ false → at + 2 ≤ length room
+  pub room-left : Fits seen at room → row < parameterCount → getD seen row false ≡ false → at + 2 ≤ length room
   room-left = left-by seen at row room
 
   module _ {values : List ℕ} where
     ask-not : asks seen number ≡ false → Asks seen at values number room at seen room
     ask-not e = record { is = simp e; seen-is = simp e; room-is = simp e }
 
-    pub ask-unknown : rowCount ≤ row → Asks seen at values number room at seen room
+    pub ask-unknown : parameterCount ≤ row → Asks seen at values number room at seen room
     unfolding asks
-    ask-unknown h = ask-not (simp (le-ltb (placeOf number) rowCount (omega (arith, p .is))))
+    ask-unknown h = ask-not (simp (le-ltb (placeOf number) parameterCount (omega (arith, p .is))))
 
-    module _ (h : row < rowCount) where
+    module _ (h : row < parameterCount) where
       pub ask-again : getD seen row false ≡ true → Asks seen at values number room at seen room
       unfolding asks
-      ask-again e = ask-not (simp (sym (p .is), lt-ltb row rowCount h, e))
+      ask-again e = ask-not (simp (sym (p .is), lt-ltb row parameterCount h, e))
 
       pub ask-new : Fits seen at room → getD seen row false ≡ false →
           Asks seen at values number room (at + 2) (set seen row true) (set (set room at number) (at + 1) (getD values row 0))
       unfolding asks
       ask-new f e =
-          let y : asks seen number ≡ true = simp (sym (p .is), lt-ltb row rowCount h, e) in
+          let y : asks seen number ≡ true = simp (sym (p .is), lt-ltb row parameterCount h, e) in
           record {
             is = simp y;
             seen-is = rw y (rw (p .is) refl);
@@ -210,16 +210,16 @@ unfolding marks
 marks-none zero = refl
 marks-none (suc n) = marks-none n
 
-pub asking-none : {values asked room : List ℕ} → rowCount + rowCount ≤ length room → Asking values asked room room (replicate rowCount false) 0 0
+pub asking-none : {values asked room : List ℕ} → 2 * parameterCount ≤ length room → Asking values asked room room (replicate parameterCount false) 0 0
 unfolding over pairBytes member supported
 asking-none h =
     record {
       sofar = [];
       here = omega arith;
-      fits = record { at-is = let z = marks-none rowCount in omega arith; room-is = h; seen-is = refl };
+      fits = record { at-is = let z = marks-none parameterCount in omega arith; room-is = h; seen-is = refl };
       long = refl;
       size = refl;
-      marked = λ n e. getD-replicate rowCount (placeOf n) false false (let z = ltb-true (placeOf n) (length rows) e in omega (arith, many));
+      marked = λ n e. getD-replicate parameterCount (placeOf n) false false (ltb-true (placeOf n) parameterCount e);
       is = refl;
       rest = refl;
     }
@@ -231,9 +231,9 @@ unfolding askedFor
 asked-step sofar asked i h = rw (add-one i, drop-cons asked i 0 h) refl
 
 -- The code asks what the definition asks.
-in-rows : (n : ℕ) → ltb (placeOf n) rowCount ≡ supported n
+in-rows : (n : ℕ) → ltb (placeOf n) parameterCount ≡ supported n
 unfolding supported
-in-rows n = rw many refl
+in-rows n = refl
 
 asks-by : (seen : List Bool) (sofar : List ℕ) (n : ℕ) → (supported n ≡ true → getD seen (placeOf n) false ≡ member n sofar) →
     (d : Bool) → supported n ≡ d → asks seen n ≡ both (supported n) (not (member n sofar))
@@ -252,7 +252,7 @@ unfolding supported
 marked-by seen sofar n m h s k true e =
     rw (← eqb-true n m e) (getD-set-same seen (placeOf n) true false h ∙ sym (either-true (member n sofar)))
 marked-by seen sofar n m h s k false e =
-    getD-set-other seen (placeOf n) (placeOf m) true false (λ q. eqb-false n m e (sym (same-place m n (ltb-true (placeOf m) (length rows) s) q)))
+    getD-set-other seen (placeOf n) (placeOf m) true false (λ q. eqb-false n m e (sym (same-place m n (ltb-true (placeOf m) parameterCount s) q)))
     ∙ (k ∙ sym (either-false (member m sofar)))
 
 module _ {values asked room₀ room : List ℕ} {seen : List Bool} {at i : ℕ} (k : Asking values asked room₀ room seen at i) (h : i < length asked) where
@@ -280,7 +280,7 @@ module _ {values asked room₀ room : List ℕ} {seen : List Bool} {at i : ℕ} 
       let b = sym asking-same ∙ e in
       let s = both-left (supported n) (not (member n (k .sofar))) b in
       let f = not-true (member n (k .sofar)) (both-right (supported n) (not (member n (k .sofar))) b) in
-      let p : placeOf n < rowCount = let z = ltb-true (placeOf n) (length rows) s in omega (arith, many) in
+      let p = ltb-true (placeOf n) parameterCount s in
       let g : getD seen (placeOf n) false ≡ false = k .marked n s ∙ f in
       let inside : placeOf n < length seen = omega (arith, k .fits .seen-is) in
       let l = left-by seen at (placeOf n) room (k .fits) p g in
@@ -321,23 +321,23 @@ asking-all {values} {asked} {room₀} {i = i} k h =
 
 -- ---- `answer`
 
-pub answer-room : {t : Table} {asked room : List ℕ} → length room < 1 + (rowCount + rowCount) → Answers t asked room (Refused Room) room
+pub answer-room : {t : Table} {asked room : List ℕ} → length room < pairsSize → Answers t asked room (Refused Room) room
 unfolding over
-answer-room {t} {asked} {room} h = record { is = simp (lt-ltb (length room) (1 + (rowCount + rowCount)) h); room-is = simp (lt-ltb (length room) (1 + (rowCount + rowCount)) h) }
+answer-room {t} {asked} {room} h = record { is = simp (lt-ltb (length room) (pairsSize) h); room-is = simp (lt-ltb (length room) (pairsSize) h) }
 
 answer-data : (t : Table) (asked ns : List ℕ) → answeredNumbers asked ≡ ns → answerData (valuesOf t) asked ≡ 0xFF ∷ pairBytes (showing (t .present)) ns
 unfolding answerData
 answer-data t asked ns a = rw (a, pairs-shown t ns) refl
 
 -- The beep byte, and the part behind it that was lent and has come back with the pairs at its front.
-answer-by : (t : Table) (asked room part ns : List ℕ) (count : ℕ) → 1 + (rowCount + rowCount) ≤ length room → answeredNumbers asked ≡ ns →
-    count ≡ length (pairBytes (showing (t .present)) ns) → count ≤ rowCount + rowCount →
+answer-by : (t : Table) (asked room part ns : List ℕ) (count : ℕ) → pairsSize ≤ length room → answeredNumbers asked ≡ ns →
+    count ≡ length (pairBytes (showing (t .present)) ns) → count ≤ 2 * parameterCount →
     part ≡ over (pairBytes (showing (t .present)) ns) (take (length (set room 0 0xFF) - 1) (drop 1 (set room 0 0xFF))) →
     Answers t asked room (Bytes (count + 1)) (take 1 (set room 0 0xFF) ++ (part ++ drop (length (set room 0 0xFF) - 1) (drop 1 (set room 0 0xFF))))
 answer-by t asked room part ns count h a n m e =
     let q = pairBytes (showing (t .present)) ns in
     let l = length-set room 0 0xFF in
-    let y = le-ltb (length room) (1 + (rowCount + rowCount)) h in
+    let y = le-ltb (length room) (pairsSize) h in
     let d = answer-data t asked ns a in
     record {
       is = simp (y, d) (ap Bytes (omega arith));
@@ -346,7 +346,7 @@ answer-by t asked room part ns count h a n m e =
           ∙ simp (y, d) (rw (set-over room 0 0xFF (omega arith)) (over-behind 1 (0xFF ∷ []) q room refl));
     }
 
-module _ {t : Table} {asked room part : List ℕ} {count : ℕ} {b : Bool} (h : 1 + (rowCount + rowCount) ≤ length room) (k : AsksAll asked b) where
+module _ {t : Table} {asked room part : List ℕ} {count : ℕ} {b : Bool} (h : pairsSize ≤ length room) (k : AsksAll asked b) where
   pub answer-all : b ≡ true → AllPairs (t .present) (take (length (set room 0 0xFF) - 1) (drop 1 (set room 0 0xFF))) count part →
       Answers t asked room (Bytes (count + 1)) (take 1 (set room 0 0xFF) ++ (part ++ drop (length (set room 0 0xFF) - 1) (drop 1 (set room 0 0xFF))))
   unfolding answeredNumbers

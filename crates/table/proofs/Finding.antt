@@ -13,16 +13,13 @@ use lib.Seq.{drop-cons, drop-length, take-all, take-suc, take-suc-set}
 use borrow.Author.Tests.{eq-eqb, ne-eqb, lt-ltb, le-ltb, le-leb, lt-leb, eqb-true}
 use Rattle.words.specs.Lists.{pick, both}
 use Rattle.words.proofs.Lists.{both-left, both-right}
-use Rattle.table.specs.Rows.{rows, placeIn, placeOf, supported, triggerAllowed, rangeAllowed, allowed, defaultsOf}
+use Rattle.table.specs.Rows.{parameterCount, rows, placeIn, placeOf, supported, triggerAllowed, rangeAllowed, allowed, defaultsOf}
 use Rattle.table.specs.Promises.{Place, House, TriggerAllowed, Allowed, Value}
 use Rattle.table.specs.Table.{valueOf}
 use Rattle.table.specs.declared.Table.{Table}
 
--- How many rows there are: these laws name the number nowhere else.
-abbrev pub rowCount : ℕ
-rowCount = 9
-
-pub many : length rows ≡ rowCount
+-- A row for each parameter.
+pub many : length rows ≡ parameterCount
 unfolding rows
 many = refl
 
@@ -53,7 +50,7 @@ module _ {number i : ℕ} (k : Looking number i) where
       let e = simp (eq-eqb (getD (getD rows i []) 0 0) number d) at (place-step rows number i h) in
       record { is = omega (arith, k .is, e); most = omega (arith, many) }
 
-  pub looking-all : rowCount ≤ i → Place number rowCount
+  pub looking-all : parameterCount ≤ i → Place number parameterCount
   unfolding placeIn
   looking-all h =
       let e : i ≡ length rows = omega (arith, k .at, many) in
@@ -95,8 +92,8 @@ pub place-at : (i : ℕ) → i < length rows → placeOf (getD (getD rows i []) 
 place-at i h = placed-from rows rows 0 all-placed i h ∙ zero-add i
 
 -- Two parameters with one row are one.
-pub same-place : (m n : ℕ) → placeOf m < length rows → placeOf m ≡ placeOf n → m ≡ n
-same-place m n h e = sym (number-at rows m h) ∙ (rw e (number-at rows n (omega arith)))
+pub same-place : (m n : ℕ) → placeOf m < parameterCount → placeOf m ≡ placeOf n → m ≡ n
+same-place m n h e = sym (number-at rows m (omega (arith, many))) ∙ (rw e (number-at rows n (omega (arith, many))))
 
 -- ---- `house`
 
@@ -148,24 +145,24 @@ pub trigger-last : {value : ℕ} → (value ≡ 0 → ⊥) → (value ≡ 2 → 
 unfolding triggerAllowed
 trigger-last {value} a b d e = record { is = simp (ne-eqb value 0 a, ne-eqb value 2 b, ne-eqb value 4 d, ne-eqb value 7 e) }
 
-pub supported-at : {number at : ℕ} → Place number at → at < rowCount → supported number ≡ true
+pub supported-at : {number at : ℕ} → Place number at → at < parameterCount → supported number ≡ true
 unfolding supported
-supported-at {number} {at} p h = lt-ltb (placeOf number) (length rows) (omega (arith, p .is, many))
+supported-at {number} {at} p h = lt-ltb (placeOf number) parameterCount (omega (arith, p .is))
 
-pub unsupported-at : {number at : ℕ} → Place number at → rowCount ≤ at → supported number ≡ false
+pub unsupported-at : {number at : ℕ} → Place number at → parameterCount ≤ at → supported number ≡ false
 unfolding supported
-unsupported-at {number} {at} p h = le-ltb (placeOf number) (length rows) (omega (arith, p .is, many))
+unsupported-at {number} {at} p h = le-ltb (placeOf number) parameterCount (omega (arith, p .is))
 
 module _ {number value at : ℕ} (p : Place number at) where
-  pub allowed-unknown : rowCount ≤ at → Allowed number value false
+  pub allowed-unknown : parameterCount ≤ at → Allowed number value false
   unfolding allowed
   allowed-unknown h = record { is = simp (unsupported-at p h) }
 
-  pub allowed-low : at < rowCount → value < getD (getD rows at []) 1 0 → Allowed number value false
+  pub allowed-low : at < parameterCount → value < getD (getD rows at []) 1 0 → Allowed number value false
   unfolding allowed rangeAllowed
   allowed-low h l = record { is = simp (supported-at p h, sym (p .is), lt-leb (getD (getD rows at []) 1 0) value l) }
 
-  module _ (h : at < rowCount) (l : getD (getD rows at []) 1 0 ≤ value) where
+  module _ (h : at < parameterCount) (l : getD (getD rows at []) 1 0 ≤ value) where
     pub allowed-high : getD (getD rows at []) 2 0 < value → Allowed number value false
     unfolding allowed rangeAllowed
     allowed-high m = record { is = simp (supported-at p h, sym (p .is), le-leb (getD (getD rows at []) 1 0) value l, lt-leb value (getD (getD rows at []) 2 0) m) }

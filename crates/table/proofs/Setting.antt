@@ -6,12 +6,15 @@ use mathlib.Core.Bool.{Bool, true, false}
 use mathlib.Core.List.{List, [], _∷_}
 use native.Mathlib.Numerals.{add-one}
 use native.Mathlib.Omega.{arith}
+use lib.Dec.{eqb, ltb, leb}
 use lib.ListN.{length, getD, drop, set, length-drop, length-set, drop-of-length-le}
 use lib.Seq.{drop-cons, set-out}
+use borrow.Author.Tests.{lt-ltb, eqb-true, eqb-false}
+use Rattle.packet.specs.Sizes.{dataSize}
 use Rattle.packet.specs.declared.Refusal.the-variants.{Data, Setting}
-use Rattle.table.specs.Rows.{rows, placeOf}
-use Rattle.table.specs.Table.{Pair, wrongLength, pairs, behind, readPairs, allAllowed, setAll, changed, setPairs, defaults, powerUp}
-use Rattle.table.specs.Promises.{Defaults, PowerUp, Sets, House, Place, Allowed, Even, Judges, Full, Puts, PutsAll, Changes, pairsOf, changedOf}
+use Rattle.table.specs.Rows.{parameterCount, rows, placeOf}
+use Rattle.table.specs.Table.{Pair, wrongLength, pairs, behind, readPairs, isRead, sendLengthAllowed, requestLengthAllowed, allAllowed, setAll, changed, setPairs, defaults, powerUp}
+use Rattle.table.specs.Promises.{Defaults, PowerUp, Sets, SendLengthAllowed, RequestLengthAllowed, House, Place, Allowed, Even, Judges, Full, Puts, PutsAll, Changes, pairsOf, changedOf}
 use Rattle.table.specs.declared.Table.{Table}
 use Rattle.table.specs.declared.Changed.{Changed}
 use Rattle.table.specs.declared.Verdict.the-variants.{Done, Refused}
@@ -37,6 +40,28 @@ unfolding readPairs behind
 read-odd [] d = absurd (d refl)
 read-odd (n ∷ []) d = refl
 read-odd (n ∷ v ∷ rest) d = rw (read-odd rest (λ e. d (omega arith))) refl
+
+-- Pairs are read from an even number of bytes and from no other; with the beep byte that is an odd number.
+read-by : (bytes : List ℕ) (d : Bool) → eqb (suc (length bytes) % 2) 1 ≡ d → isRead (readPairs bytes) ≡ d
+unfolding isRead
+read-by bytes true e = let odd = eqb-true (suc (length bytes) % 2) 1 e in rw (read-even bytes (omega arith)) refl
+read-by bytes false e = rw (read-odd bytes (λ z. eqb-false (suc (length bytes) % 2) 1 e (omega arith))) refl
+
+pub odd-read : (carried : List ℕ) → sendLengthAllowed carried ≡ eqb (length carried % 2) 1
+unfolding sendLengthAllowed
+odd-read [] = refl
+odd-read (code ∷ bytes) = simp (lt-ltb 0 (suc (length bytes)) (omega arith)) (read-by bytes (eqb (suc (length bytes) % 2) 1) refl)
+
+pub send-length : {carried : List ℕ} → SendLengthAllowed carried (eqb (length carried % 2) 1)
+send-length {carried} = record { is = sym (odd-read carried) }
+
+pub request-none : {carried : List ℕ} → length carried ≡ 0 → RequestLengthAllowed carried false
+unfolding requestLengthAllowed
+request-none {carried} e = record { is = sym (simp e) }
+
+pub request-some : {carried : List ℕ} → (length carried ≡ 0 → ⊥) → RequestLengthAllowed carried (leb (length carried) dataSize)
+unfolding requestLengthAllowed
+request-some {carried} n = record { is = sym (simp (lt-ltb 0 (length carried) (omega arith))) }
 
 -- The pair that stands at i.
 abbrev pub pairAt : List ℕ → ℕ → Pair
@@ -105,7 +130,7 @@ judging-all {bytes} {i} k h = record { is = sym (k .rest ∙ rw (read-end bytes 
 pub put-at : {values : List ℕ} {number value at : ℕ} → Place number at → Puts values number value (set values at value)
 put-at {values} {value = value} p = record { is = ap (λ (i : ℕ). set values i value) (p .is) }
 
-pub put-none : {values : List ℕ} {number value at : ℕ} → Full values → Place number at → length rows ≤ at → Puts values number value values
+pub put-none : {values : List ℕ} {number value at : ℕ} → Full values → Place number at → parameterCount ≤ at → Puts values number value values
 put-none {values} {number} {value} f p h = record { is = sym (set-out values (placeOf number) value (omega (arith, f .is, p .is))) }
 
 -- The pairs passed are set, so what is left to set are those of the rest.
@@ -114,7 +139,7 @@ pub record Putting (values bytes next : List ℕ) (i : ℕ) : Type 0 where
   pub full : Full next
   pub rest : setAll (pairsOf (readPairs bytes)) values ≡ setAll (pairsOf (readPairs (drop i bytes))) next
 
-pub putting-none : {values bytes : List ℕ} → Even bytes → length values ≡ length rows → Putting values bytes values 0
+pub putting-none : {values bytes : List ℕ} → Even bytes → length values ≡ parameterCount → Putting values bytes values 0
 putting-none e l = record { within = within-none e; full = record { is = l }; rest = refl }
 
 pub putting-more : {values bytes next next′ : List ℕ} {i : ℕ} → Putting values bytes next i → i < length bytes →

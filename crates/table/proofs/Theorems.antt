@@ -13,13 +13,13 @@ use Rattle.words.specs.Lists.{pick, both, either}
 use Rattle.words.proofs.Lists.{both-left, both-right, both-false, never, either-true}
 use Rattle.packet.specs.declared.Refusal.{Refusal}
 use Rattle.packet.specs.declared.Refusal.the-variants.{Setting, Room}
-use Rattle.table.specs.Rows.{rows, placeIn, placeOf, supported, triggerAllowed, rangeAllowed, allowed, defaultsOf}
+use Rattle.table.specs.Rows.{parameterCount, pairsSize, rows, placeIn, placeOf, supported, triggerAllowed, rangeAllowed, allowed, defaultsOf}
 use Rattle.table.specs.Table.{Values, Pair, Reading, wrongLength, pairs, allAllowed, setAll, changed, done, refused, setPairs, defaults, powerUp, member, askedFor, numbersOf, answeredNumbers, answerData}
 use Rattle.table.specs.Promises.{Answers, valuesOf, changedOf, marks}
 use Rattle.table.specs.declared.Table.{Table}
 use Rattle.table.specs.declared.Written.{Written}
 use Rattle.table.specs.declared.Written.the-variants.{Bytes, Refused}
-use Rattle.table.proofs.Finding.{rowCount, number-at, same-place, length-defaults}
+use Rattle.table.proofs.Finding.{many, number-at, same-place, length-defaults}
 use Rattle.table.proofs.Answering.{marks-set, marks-most, marks-none, marked-by, member-append, length-pairs, either-false, either-assoc}
 
 -- ---- what a list of settings changes
@@ -29,9 +29,9 @@ unfoldable pub named : ℕ → List Pair → Bool
 named n [] = false
 named n (p ∷ ps) = either (eqb (p .number) n) (named n ps)
 
-placed-in : (n : ℕ) → supported n ≡ true → placeOf n < length rows
+placed-in : (n : ℕ) → supported n ≡ true → placeOf n < parameterCount
 unfolding supported
-placed-in n s = ltb-true (placeOf n) (length rows) s
+placed-in n s = ltb-true (placeOf n) parameterCount s
 
 either-left : (a b : Bool) → either a b ≡ false → a ≡ false
 either-left true b e = e
@@ -91,7 +91,7 @@ set-all-append [] qs values = refl
 set-all-append (p ∷ ps) qs values = set-all-append ps qs (set values (placeOf (p .number)) (p .value))
 
 -- Of a number named twice the later value holds: whatever came before, and whatever comes after that names it no more.
-pub later-holds : (ps qs : List Pair) (p : Pair) (values : List ℕ) → supported (p .number) ≡ true → length values ≡ length rows → named (p .number) qs ≡ false →
+pub later-holds : (ps qs : List Pair) (p : Pair) (values : List ℕ) → supported (p .number) ≡ true → length values ≡ parameterCount → named (p .number) qs ≡ false →
     getD (setAll (ps ++ (p ∷ qs)) values) (placeOf (p .number)) 0 ≡ p .value
 unfolding setAll
 later-holds ps qs p values s l e =
@@ -101,7 +101,7 @@ later-holds ps qs p values s l e =
     (set-kept qs (set (setAll ps values) i (p .value)) (p .number) s e ∙ getD-set-same (setAll ps values) i (p .value) 0 inside)
 
 -- The last pair of a list holds.
-pub last-holds : (ps : List Pair) (p : Pair) (values : List ℕ) → supported (p .number) ≡ true → length values ≡ length rows →
+pub last-holds : (ps : List Pair) (p : Pair) (values : List ℕ) → supported (p .number) ≡ true → length values ≡ parameterCount →
     getD (setAll (ps ++ (p ∷ [])) values) (placeOf (p .number)) 0 ≡ p .value
 unfolding named
 last-holds ps p values s l = later-holds ps [] p values s l refl
@@ -110,8 +110,8 @@ last-holds ps p values s l = later-holds ps [] p values s l refl
 
 -- Each row's number and its value are allowed.
 pub record AllAllowedIn (values : List ℕ) : Type 0 where
-  pub long : length values ≡ length rows
-  pub each : (i : ℕ) → i < length rows → allowed (getD (getD rows i []) 0 0) (getD values i 0) ≡ true
+  pub long : length values ≡ parameterCount
+  pub each : (i : ℕ) → i < parameterCount → allowed (getD (getD rows i []) 0 0) (getD values i 0) ≡ true
 
 -- A test that antt computes over the whole table, and the rule that it gives.
 unfoldable defaultsAllowed : List (List ℕ) → Bool
@@ -132,17 +132,17 @@ defaults-tested = refl
 
 -- The house defaults are allowed.
 pub defaults-allowed : AllAllowedIn (defaultsOf rows)
-defaults-allowed = record { long = length-defaults rows; each = default-allowed rows defaults-tested }
+defaults-allowed = record { long = length-defaults rows ∙ many; each = λ i h. default-allowed rows defaults-tested i (omega (arith, many)) }
 
 supported-of : (n v : ℕ) → allowed n v ≡ true → supported n ≡ true
 unfolding allowed
 supported-of n v e = both-left (supported n) _ e
 
-set-one-at : (values : List ℕ) (n v : ℕ) → AllAllowedIn values → allowed n v ≡ true → (i : ℕ) → i < length rows → (d : Bool) → eqb i (placeOf n) ≡ d →
+set-one-at : (values : List ℕ) (n v : ℕ) → AllAllowedIn values → allowed n v ≡ true → (i : ℕ) → i < parameterCount → (d : Bool) → eqb i (placeOf n) ≡ d →
     allowed (getD (getD rows i []) 0 0) (getD (set values (placeOf n) v) i 0) ≡ true
 set-one-at values n v k a i h true e =
     let p = placed-in n (supported-of n v a) in
-    rw (eqb-true i (placeOf n) e, number-at rows n p, getD-set-same values (placeOf n) v 0 (omega (arith, k .long))) a
+    rw (eqb-true i (placeOf n) e, number-at rows n (omega (arith, many)), getD-set-same values (placeOf n) v 0 (omega (arith, k .long))) a
 set-one-at values n v k a i h false e = rw (getD-set-other values (placeOf n) i v 0 (eqb-false i (placeOf n) e)) (k .each i h)
 
 set-one-allowed : (values : List ℕ) (n v : ℕ) → AllAllowedIn values → allowed n v ≡ true → AllAllowedIn (set values (placeOf n) v)
@@ -286,7 +286,7 @@ answer-names-asked asked n s e = simp e (asked-there [] asked n s)
 -- Numbers that stand once and are supported mark as many rows.
 record Marked (ns : List ℕ) : Type 0 where
   seen : List Bool
-  long : length seen ≡ length rows
+  long : length seen ≡ parameterCount
   count : marks seen ≡ length ns
   same : (m : ℕ) → supported m ≡ true → getD seen (placeOf m) false ≡ member m ns
 
@@ -300,10 +300,10 @@ marked : (ns : List ℕ) → distinct ns ≡ true → allSupported ns ≡ true �
 unfolding distinct allSupported member
 marked [] d a =
     record {
-      seen = replicate (length rows) false;
-      long = length-replicate (length rows) false;
-      count = marks-none (length rows);
-      same = λ m s. getD-replicate (length rows) (placeOf m) false false (placed-in m s);
+      seen = replicate parameterCount false;
+      long = length-replicate parameterCount false;
+      count = marks-none parameterCount;
+      same = λ m s. getD-replicate parameterCount (placeOf m) false false (placed-in m s);
     }
 marked (n ∷ ns) d a =
     let k = marked ns (both-right (not (member n ns)) (distinct ns) d) (both-right (supported n) (allSupported ns) a) in
@@ -317,24 +317,24 @@ marked (n ∷ ns) d a =
       same = λ m t. marked-by (k .seen) ns n m inside t (k .same m t) (eqb n m) refl ∙ either-swap (member m ns) (eqb n m);
     }
 
-once-most : (ns : List ℕ) → Once ns → length ns ≤ length rows
+once-most : (ns : List ℕ) → Once ns → length ns ≤ parameterCount
 once-most ns o = let k = marked ns (o .once) (o .known) in let m = marks-most (k .seen) in omega (arith, k .long, k .count)
 
 -- An answer's data is the beep byte and at most a pair for each row.
-pub answer-most : (t : Values) (asked : List ℕ) → length (answerData t asked) ≤ 1 + 2 * length rows
+pub answer-most : (t : Values) (asked : List ℕ) → length (answerData t asked) ≤ pairsSize
 unfolding answerData
 answer-most t asked =
     let l = length-pairs t (answeredNumbers asked) in
     let m = once-most (answeredNumbers asked) (answer-names-once asked) in
     omega arith
 
-answered-by-room : (d : Bool) (l n : ℕ) → l ≤ 1 + 2 * length rows → pick d (Refused Room) (Bytes l) ≡ Bytes n → n ≤ 1 + 2 * length rows
+answered-by-room : (d : Bool) (l n : ℕ) → l ≤ pairsSize → pick d (Refused Room) (Bytes l) ≡ Bytes n → n ≤ pairsSize
 answered-by-room true l n h e = never (cc)
 answered-by-room false l n h e = let z : l ≡ n = cc in omega arith
 
 -- The same of the number of bytes that `answer` gives back, for its callers.
-pub answered-most : {t : Table} {asked room room′ : List ℕ} {r : Written} {n : ℕ} → Answers t asked room r room′ → r ≡ Bytes n → n ≤ 1 + 2 * length rows
-answered-most {t} {asked} {room} {n = n} k e = answered-by-room (ltb (length room) (1 + (rowCount + rowCount))) (length (answerData (valuesOf t) asked)) n (answer-most (valuesOf t) asked) (sym (k .is) ∙ e)
+pub answered-most : {t : Table} {asked room room′ : List ℕ} {r : Written} {n : ℕ} → Answers t asked room r room′ → r ≡ Bytes n → n ≤ pairsSize
+answered-most {t} {asked} {room} {n = n} k e = answered-by-room (ltb (length room) pairsSize) (length (answerData (valuesOf t) asked)) n (answer-most (valuesOf t) asked) (sym (k .is) ∙ e)
 
 member-there : (n : ℕ) (xs ys : List ℕ) → member n (xs ++ (n ∷ ys)) ≡ true
 unfolding member

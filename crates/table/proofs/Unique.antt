@@ -6,7 +6,7 @@ use mathlib.Core.List.{List}
 use Rattle.table.specs.declared.Table.{Table}
 use Rattle.table.specs.declared.Changed.{Changed}
 use Rattle.table.specs.declared.Written.{Written}
-use Rattle.table.specs.Promises.{Defaults, PowerUp, Sets, Value, Allowed, Answers}
+use Rattle.table.specs.Promises.{Defaults, PowerUp, Sets, SendLengthAllowed, RequestLengthAllowed, Value, Allowed, Answers}
 
 pub defaults-unique : {r r′ : Table} → Defaults r → Defaults r′ → r ≡ r′
 defaults-unique p q = p .is ∙ sym (q .is)
@@ -16,6 +16,12 @@ power-up-unique p q = p .is ∙ sym (q .is)
 
 pub set-unique : {t : Table} {bytes : List ℕ} {forever : Bool} {r r′ : Changed} → Sets t bytes forever r → Sets t bytes forever r′ → r ≡ r′
 set-unique p q = p .is ∙ sym (q .is)
+
+pub send-length-allowed-unique : {carried : List ℕ} {r r′ : Bool} → SendLengthAllowed carried r → SendLengthAllowed carried r′ → r ≡ r′
+send-length-allowed-unique p q = p .is ∙ sym (q .is)
+
+pub request-length-allowed-unique : {carried : List ℕ} {r r′ : Bool} → RequestLengthAllowed carried r → RequestLengthAllowed carried r′ → r ≡ r′
+request-length-allowed-unique p q = p .is ∙ sym (q .is)
 
 pub value-unique : {t : Table} {number r r′ : ℕ} → Value t number r → Value t number r′ → r ≡ r′
 value-unique p q = p .is ∙ sym (q .is)

@@ -1,5 +1,5 @@
 -- What the table's calls promise: the answer, the table, and every byte of the room.
-use Prim.Native.Nat.{ℕ, _+_, _%_, _≤_}
+use Prim.Native.Nat.{ℕ, _+_, _*_, _%_, _≤_}
 use mathlib.Core.Bool.{Bool, true, false, not}
 use mathlib.Core.List.{List, [], _∷_}
 use mathlib.Core.Path.{_≡_}
@@ -7,8 +7,8 @@ use lib.Dec.{ltb}
 use lib.ListN.{length, getD, set}
 use Rattle.words.specs.Lists.{pick, both, over, overAt}
 use Rattle.packet.specs.declared.Refusal.the-variants as refusal
-use Rattle.table.specs.Rows.{rows, placeOf, triggerAllowed, allowed, defaultsOf}
-use Rattle.table.specs.Table.{Values, Pair, Reading, wrongLength, pairs, readPairs, allAllowed, setAll, changed, Outcome, done, refused, setPairs, defaults, powerUp, valueOf, member, askedFor, numbersOf, pairBytes, answerData}
+use Rattle.table.specs.Rows.{parameterCount, pairsSize, rows, placeOf, triggerAllowed, allowed, defaultsOf}
+use Rattle.table.specs.Table.{Values, Pair, Reading, wrongLength, pairs, readPairs, sendLengthAllowed, requestLengthAllowed, allAllowed, setAll, changed, Outcome, done, refused, setPairs, defaults, powerUp, valueOf, member, askedFor, numbersOf, pairBytes, answerData}
 use Rattle.table.specs.declared.Table.{Table}
 use Rattle.table.specs.declared.Verdict.the-variants as verdict
 use Rattle.table.specs.declared.Changed.{Changed}
@@ -36,16 +36,22 @@ pub record PowerUp (t r : Table) : Type 0 where
 pub record Sets (t : Table) (bytes : List ℕ) (forever : Bool) (r : Changed) : Type 0 where
   pub is : r ≡ changedOf t (setPairs forever (readPairs bytes) (valuesOf t))
 
+pub record SendLengthAllowed (carried : List ℕ) (r : Bool) : Type 0 where
+  pub is : r ≡ sendLengthAllowed carried
+
+pub record RequestLengthAllowed (carried : List ℕ) (r : Bool) : Type 0 where
+  pub is : r ≡ requestLengthAllowed carried
+
 pub record Value (t : Table) (number r : ℕ) : Type 0 where
   pub is : r ≡ valueOf (valuesOf t) number
 
 pub record Allowed (number value : ℕ) (r : Bool) : Type 0 where
   pub is : r ≡ allowed number value
 
--- The pair writer: 13 for room under 19; else the data, and nothing beyond it.
+-- The pair writer: 13 for room too small for the longest answer; else the data, and nothing beyond it.
 pub record Answers (t : Table) (asked room : List ℕ) (r : Written) (room′ : List ℕ) : Type 0 where
-  pub is : r ≡ pick (ltb (length room) 19) (written.Refused refusal.Room) (written.Bytes (length (answerData (valuesOf t) asked)))
-  pub room-is : room′ ≡ over (pick (ltb (length room) 19) [] (answerData (valuesOf t) asked)) room
+  pub is : r ≡ pick (ltb (length room) pairsSize) (written.Refused refusal.Room) (written.Bytes (length (answerData (valuesOf t) asked)))
+  pub room-is : room′ ≡ over (pick (ltb (length room) pairsSize) [] (answerData (valuesOf t) asked)) room
 
 -- ---- the functions inside
 
@@ -54,7 +60,7 @@ pub record House (r : List ℕ) : Type 0 where
 
 pub record Place (number r : ℕ) : Type 0 where
   pub is : r ≡ placeOf number
-  pub most : r ≤ 9
+  pub most : r ≤ parameterCount
 
 pub record TriggerAllowed (value : ℕ) (r : Bool) : Type 0 where
   pub is : r ≡ triggerAllowed value
@@ -70,9 +76,9 @@ pub record Even (bytes : List ℕ) : Type 0 where
 pub record Judges (bytes : List ℕ) (r : Bool) : Type 0 where
   pub is : r ≡ allAllowed (pairsOf (readPairs bytes))
 
--- As many values as rows.
+-- A value for each parameter.
 pub record Full (values : List ℕ) : Type 0 where
-  pub is : length values ≡ length rows
+  pub is : length values ≡ parameterCount
 
 pub record Puts (values : List ℕ) (number value : ℕ) (r : List ℕ) : Type 0 where
   pub is : r ≡ set values (placeOf number) value
@@ -92,12 +98,12 @@ showing values = record { present = values; permanent = [] }
 pub record AllPairs (values room : List ℕ) (r : ℕ) (room′ : List ℕ) : Type 0 where
   pub is : r ≡ length (pairBytes (showing values) (numbersOf rows))
   pub room-is : room′ ≡ over (pairBytes (showing values) (numbersOf rows)) room
-  pub most : r ≤ 18
+  pub most : r ≤ 2 * parameterCount
 
 pub record AskedPairs (values asked room : List ℕ) (r : ℕ) (room′ : List ℕ) : Type 0 where
   pub is : r ≡ length (pairBytes (showing values) (askedFor [] asked))
   pub room-is : room′ ≡ over (pairBytes (showing values) (askedFor [] asked)) room
-  pub most : r ≤ 18
+  pub most : r ≤ 2 * parameterCount
 
 -- How many are marked.
 unfoldable pub marks : List Bool → ℕ
@@ -108,12 +114,12 @@ marks (false ∷ bs) = marks bs
 -- As long as one is not marked, there is room for its pair.
 pub record Fits (seen : List Bool) (at : ℕ) (room : List ℕ) : Type 0 where
   pub at-is : at ≡ marks seen + marks seen
-  pub room-is : 18 ≤ length room
-  pub seen-is : length seen ≡ 9
+  pub room-is : 2 * parameterCount ≤ length room
+  pub seen-is : length seen ≡ parameterCount
 
 -- One number asked for.
 unfoldable pub asks : List Bool → ℕ → Bool
-asks seen number = both (ltb (placeOf number) 9) (not (getD seen (placeOf number) false))
+asks seen number = both (ltb (placeOf number) parameterCount) (not (getD seen (placeOf number) false))
 
 pub record Asks (seen : List Bool) (at : ℕ) (values : List ℕ) (number : ℕ) (room : List ℕ) (r : ℕ) (seen′ : List Bool) (room′ : List ℕ) : Type 0 where
   pub is : r ≡ pick (asks seen number) (at + 2) at

@@ -1,10 +1,18 @@
--- Document 01, 'The reader's commands': the allowed settings, rows of four numbers: parameter, lowest, highest, house default.
-use Prim.Native.Nat.{ℕ, suc}
+-- §12: the allowed settings, rows of four numbers: parameter, lowest, highest, house default.
+use Prim.Native.Nat.{ℕ, suc, _+_, _*_}
 use mathlib.Core.Bool.{Bool, not}
 use mathlib.Core.List.{List, [], _∷_}
 use lib.Dec.{eqb, ltb, leb}
-use lib.ListN.{length, getD}
+use lib.ListN.{getD}
 use Rattle.words.specs.Lists.{pick, both, either}
+
+-- How many there are.
+abbrev pub parameterCount : ℕ
+parameterCount = 9
+
+-- The longest data of an answer: the beep byte, and number and value of each parameter.
+abbrev pub pairsSize : ℕ
+pairsSize = 1 + 2 * parameterCount
 
 unfoldable pub rows : List (List ℕ)
 rows =
@@ -28,7 +36,7 @@ abbrev pub placeOf : ℕ → ℕ
 placeOf number = placeIn rows number
 
 unfoldable pub supported : ℕ → Bool
-supported number = ltb (placeOf number) (length rows)
+supported number = ltb (placeOf number) parameterCount
 
 -- 8Ah takes only 0, 2, 4, 7, 8.
 unfoldable pub triggerAllowed : ℕ → Bool

@@ -1,10 +1,11 @@
--- Document 01: present and permanent values, PARAM_SEND, PARAM_DEFAULTS, power-up, and the answer to PARAM_REQUEST.
+-- §12: present and permanent values, PARAM_SEND, PARAM_DEFAULTS, power-up, and the answer to PARAM_REQUEST.
 use Prim.Native.Nat.{ℕ}
 use mathlib.Core.Bool.{Bool, true, false, not}
 use mathlib.Core.List.{List, [], _∷_, _++_}
-use lib.Dec.{eqb}
-use lib.ListN.{getD, set}
+use lib.Dec.{eqb, ltb, leb}
+use lib.ListN.{length, getD, drop, set}
 use Rattle.words.specs.Lists.{pick, both, either}
+use Rattle.packet.specs.Sizes.{dataSize}
 use Rattle.packet.specs.declared.Refusal.{Refusal}
 use Rattle.packet.specs.declared.Refusal.the-variants.{Data, Setting}
 use Rattle.table.specs.Rows.{rows, placeOf, supported, allowed, defaultsOf}
@@ -32,6 +33,18 @@ unfoldable pub readPairs : List ℕ → Reading
 readPairs [] = pairs []
 readPairs (n ∷ []) = wrongLength
 readPairs (n ∷ v ∷ rest) = behind (record { number = n; value = v }) (readPairs rest)
+
+unfoldable pub isRead : Reading → Bool
+isRead wrongLength = false
+isRead (pairs ps) = true
+
+-- The data of a PARAM_SEND: a beep byte, and pairs behind it.
+unfoldable pub sendLengthAllowed : List ℕ → Bool
+sendLengthAllowed d = both (ltb 0 (length d)) (isRead (readPairs (drop 1 d)))
+
+-- The data of a PARAM_REQUEST: one number or more, as many as a packet holds.
+unfoldable pub requestLengthAllowed : List ℕ → Bool
+requestLengthAllowed d = both (ltb 0 (length d)) (leb (length d) dataSize)
 
 unfoldable pub allAllowed : List Pair → Bool
 allAllowed [] = true

@@ -1,17 +1,18 @@
 // The parameter table: nine settings with a present and a permanent value each.
 use packet::Refusal;
-ghost use Prim.Native.Nat.{_+_, _≤_, _<_};
+ghost use Prim.Native.Nat.{_+_, _*_, _≤_, _<_};
 ghost use mathlib.Core.Path.{_≡_};
 ghost use lib.ListN.{length};
-ghost use Rattle.table.specs.Promises.{Defaults, PowerUp, Sets, Value, Allowed, Answers, House, Place, TriggerAllowed, Even, Judges, Full, Puts, PutsAll, Changes, AsksAll, AllPairs, AskedPairs, Fits, Asks};
+ghost use Rattle.table.specs.Rows.{parameterCount};
+ghost use Rattle.table.specs.Promises.{Defaults, PowerUp, Sets, SendLengthAllowed, RequestLengthAllowed, Value, Allowed, Answers, House, Place, TriggerAllowed, Even, Judges, Full, Puts, PutsAll, Changes, AsksAll, AllPairs, AskedPairs, Fits, Asks};
 
 // How many parameters there are.
-pub const ROWS: usize = 9;
-// The longest data of an answer: the beep byte and a pair for each parameter.
-pub const ANSWER: usize = 1 + 2 * ROWS;
+pub const PARAMETER_COUNT: usize = 9;
+// The longest data of an answer: the beep byte, and number and value of each parameter.
+pub const PAIRS_SIZE: usize = 1 + 2 * PARAMETER_COUNT;
 
 // The allowed settings: parameter, lowest, highest, house default.
-const SETTINGS: [[u8; 4]; ROWS] = [
+const SETTINGS: [[u8; 4]; PARAMETER_COUNT] = [
     [0x80, 0, 1, 0],
     [0x89, 0, 99, 10],
     [0x8A, 0, 8, 0],
@@ -25,8 +26,8 @@ const SETTINGS: [[u8; 4]; ROWS] = [
 
 // Present and permanent values, in the order of the settings.
 pub struct Table {
-    pub present: [u8; ROWS],
-    pub permanent: [u8; ROWS],
+    pub present: [u8; PARAMETER_COUNT],
+    pub permanent: [u8; PARAMETER_COUNT],
 }
 
 // What became of a list of settings.
@@ -57,12 +58,12 @@ pub fn defaults() -> Table
     }
 }
 
-fn house() -> [u8; ROWS]
+fn house() -> [u8; PARAMETER_COUNT]
     ensures { λ r. ⌜ House r ⌝ }
 {
-    let mut values = [0u8; ROWS];
+    let mut values = [0u8; PARAMETER_COUNT];
     let mut i = 0;
-    while i < ROWS {
+    while i < PARAMETER_COUNT {
         values[i] = SETTINGS[i][3];
         i += 1;
     }
@@ -99,6 +100,23 @@ pub fn set(table: Table, pairs: &[u8], permanent: bool) -> Changed
     }
 }
 
+// Whether the data of a PARAM_SEND is a beep byte and pairs behind it.
+pub fn send_length_allowed(data: &[u8]) -> bool
+    ensures { λ r. ⌜ SendLengthAllowed (now («data» .entry)) r ⌝ }
+{
+    data.len() % 2 == 1
+}
+
+// Whether the data of a PARAM_REQUEST is one number or more, and no more than a packet holds.
+pub fn request_length_allowed(data: &[u8]) -> bool
+    ensures { λ r. ⌜ RequestLengthAllowed (now («data» .entry)) r ⌝ }
+{
+    if data.len() == 0 {
+        return false;
+    }
+    data.len() <= packet::DATA_SIZE
+}
+
 // Without permanent only present values change; with it both do.
 fn change(table: Table, pairs: &[u8], permanent: bool) -> Changed
     requires { ⌜ Even (now pairs) ⌝ }
@@ -132,17 +150,17 @@ pub fn value(table: Table, number: u8) -> u8
 {
     let at = place(number);
     let values = table.present;
-    if at < ROWS {
+    if at < PARAMETER_COUNT {
         return values[at];
     }
     0
 }
 
-// The data of the PARAM_SEND that answers a request: beep byte FFh, then the pairs. 13 for room under 19.
+// The data of the PARAM_SEND that answers a request: beep byte FFh, then the pairs. 13 for room under PAIRS_SIZE.
 pub fn answer(table: Table, asked: &[u8], room: &mut [u8]) -> Written
     ensures { λ r. ⌜ Answers table (now (asked .entry)) (now (room .entry)) r (now (room .exit)) ⌝ }
 {
-    if room.len() < ANSWER {
+    if room.len() < PAIRS_SIZE {
         return Written::Refused(Refusal::Room);
     }
     let values = table.present;
@@ -170,12 +188,12 @@ fn asks_all(asked: &[u8]) -> bool
 }
 
 // All pairs in rising order.
-fn all_pairs(values: [u8; ROWS], room: &mut [u8]) -> usize
-    requires { ⌜ 18 ≤ length (now room) ⌝ }
+fn all_pairs(values: [u8; PARAMETER_COUNT], room: &mut [u8]) -> usize
+    requires { ⌜ 2 * parameterCount ≤ length (now room) ⌝ }
     ensures { λ r. ⌜ AllPairs values (now (room .entry)) r (now (room .exit)) ⌝ }
 {
     let mut i = 0;
-    while i < ROWS {
+    while i < PARAMETER_COUNT {
         room[i + i] = SETTINGS[i][0];
         room[i + i + 1] = values[i];
         i += 1;
@@ -184,11 +202,11 @@ fn all_pairs(values: [u8; ROWS], room: &mut [u8]) -> usize
 }
 
 // The pairs of the numbers asked for, in order of first asking, each once.
-fn asked_pairs(values: [u8; ROWS], asked: &[u8], room: &mut [u8]) -> usize
-    requires { ⌜ 18 ≤ length (now room) ⌝ }
+fn asked_pairs(values: [u8; PARAMETER_COUNT], asked: &[u8], room: &mut [u8]) -> usize
+    requires { ⌜ 2 * parameterCount ≤ length (now room) ⌝ }
     ensures { λ r. ⌜ AskedPairs values (now (asked .entry)) (now (room .entry)) r (now (room .exit)) ⌝ }
 {
-    let mut seen = [false; ROWS];
+    let mut seen = [false; PARAMETER_COUNT];
     let mut at = 0;
     let mut i = 0;
     while i < asked.len() {
@@ -199,12 +217,18 @@ fn asked_pairs(values: [u8; ROWS], asked: &[u8], room: &mut [u8]) -> usize
 }
 
 // One number asked for: its pair behind those before it, unless it is unsupported or has been answered.
-fn ask(seen: &mut [bool; ROWS], at: usize, values: [u8; ROWS], number: u8, room: &mut [u8]) -> usize
+fn ask(
+    seen: &mut [bool; PARAMETER_COUNT],
+    at: usize,
+    values: [u8; PARAMETER_COUNT],
+    number: u8,
+    room: &mut [u8],
+) -> usize
     requires { ⌜ Fits (now seen) at (now room) ⌝ }
     ensures { λ r. ⌜ Asks (now (seen .entry)) at values number (now (room .entry)) r (now (seen .exit)) (now (room .exit)) ⌝ }
 {
     let row = place(number);
-    if row < ROWS {
+    if row < PARAMETER_COUNT {
         if seen[row] {
             return at;
         }
@@ -233,7 +257,7 @@ fn all_allowed(pairs: &[u8]) -> bool
 }
 
 // The values with every pair set; of a number named twice the later value holds.
-fn put_all(values: [u8; ROWS], pairs: &[u8]) -> [u8; ROWS]
+fn put_all(values: [u8; PARAMETER_COUNT], pairs: &[u8]) -> [u8; PARAMETER_COUNT]
     requires { ⌜ Even (now pairs) ⌝ }
     ensures { λ r. ⌜ PutsAll values (now (pairs .entry)) r ⌝ }
 {
@@ -246,12 +270,12 @@ fn put_all(values: [u8; ROWS], pairs: &[u8]) -> [u8; ROWS]
     next
 }
 
-fn put(values: &mut [u8; ROWS], number: u8, value: u8)
+fn put(values: &mut [u8; PARAMETER_COUNT], number: u8, value: u8)
     requires { ⌜ Full (now values) ⌝ }
     ensures { λ _. ⌜ Puts (now (values .entry)) number value (now (values .exit)) ⌝ }
 {
     let at = place(number);
-    if at < ROWS {
+    if at < PARAMETER_COUNT {
         values[at] = value;
     }
 }
@@ -261,7 +285,7 @@ pub fn allowed(number: u8, value: u8) -> bool
     ensures { λ r. ⌜ Allowed number value r ⌝ }
 {
     let at = place(number);
-    if at < ROWS {
+    if at < PARAMETER_COUNT {
         if value < SETTINGS[at][1] {
             return false;
         }
@@ -300,11 +324,11 @@ fn place(number: u8) -> usize
     ensures { λ r. ⌜ Place number r ⌝ }
 {
     let mut i = 0;
-    while i < ROWS {
+    while i < PARAMETER_COUNT {
         if SETTINGS[i][0] == number {
             return i;
         }
         i += 1;
     }
-    ROWS
+    PARAMETER_COUNT
 }

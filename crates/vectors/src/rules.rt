@@ -1,5 +1,5 @@
-// Document 01 at its edges: names and numbers, short lengths, what building refuses and in which order, the largest
-// packet, and every value of a field.
+// The rules at their edges (§2 to §4, §6, §7): names and numbers, short lengths, what building refuses and in which order, the
+// largest packet, and every value of a field.
 use crate::tally::Tally;
 use crate::tally::compared;
 use crate::tally::decimal;
@@ -34,7 +34,7 @@ pub(crate) fn rules(t: Tally) -> Tally {
     fields(c)
 }
 
-// The library's names for sources and opcodes, in the order in which document 01 prints their numbers.
+// The library's names for sources and opcodes, beside their numbers as §2, §7, §8 and §11 print them.
 fn names(t: Tally) -> Tally {
     let found = [
         packet::HOST,

@@ -1,4 +1,5 @@
-// The packets that the papers print, one to a line: bytes, opcode, source, status, number of data bytes.
+// Packets that are printed elsewhere, in docs/PROTOCOL.md (§) and in the SSI Programmer's Guide (72E-40451-03), one to a line: bytes,
+// opcode, source, status, number of data bytes.
 // All are plain numbers, so that no name of the library can be wrong on both sides.
 use crate::tally::Tally;
 use crate::trials::answered;
@@ -14,7 +15,7 @@ pub(crate) fn packets(t: Tally) -> Tally {
     others(c)
 }
 
-// Document 01, 'Cases for one table', by their numbers; the copy is the second packet of 'Hub listing'.
+// §17, the ten cases, by their numbers; the copy is the second packet of §16's hub listing.
 fn cases(before: Tally) -> Tally {
     let mut t = before;
     t = worked(t, b"\x04\xD0\x04\x00\xFF\x28", 0xD0, 4, 0, 0); // 1
@@ -44,7 +45,7 @@ fn answers(before: Tally) -> Tally {
     t
 }
 
-// PARAM_REQUESTs of source document 000, Table 2-68, by their place in it.
+// PARAM_REQUESTs of the guide's Table 2-68, by their place in it.
 fn requests(before: Tally) -> Tally {
     let mut t = before;
     t = worked(t, b"\x05\xC7\x04\x00\xFE\xFE\x32", 0xC7, 4, 0, 1); // a
@@ -87,7 +88,7 @@ fn replies(before: Tally) -> Tally {
     t
 }
 
-// Answers with document 01's own nine parameters, and the DECODE_DATA of source document 000, Tables 2-35 and 2-36.
+// Answers with the nine parameters of §12, and the DECODE_DATA of the guide's Tables 2-35 and 2-36.
 fn house(before: Tally) -> Tally {
     let mut t = before;
     let nine =

@@ -1,4 +1,5 @@
 -- The machine vocabulary: what one step does, and a run of steps over a list of inputs.
+use Prim.Native.Nat.{ℕ}
 use mathlib.Core.List.{List, [], _∷_, _++_}
 
 -- The next state, and what was told on the way, in order.
@@ -14,3 +15,8 @@ after told d = record { next = d .next; told = told ++ d .told }
 unfoldable pub through : {S I O : Type 0} → (S → I → Done S O) → S → List I → Done S O
 through step s [] = record { next = s; told = [] }
 through step s (i ∷ is) = after (step s i .told) (through step (step s i .next) is)
+
+-- Bytes that go out are told; no bytes are not.
+unfoldable pub given : {O : Type 0} → (List ℕ → O) → List ℕ → List O
+given tells [] = []
+given tells (b ∷ bs) = tells (b ∷ bs) ∷ []

@@ -25,11 +25,11 @@ set-requires c κs = search needs
 enum-told : tie.Need-enum-told
 enum-told c = search needs
 
-with-table-requires : tie.Need-with-table-requires
-with-table-requires c κs = search needs
-
 report-requires : tie.Need-report-requires
 report-requires c κs = search needs
+
+done-requires : tie.Need-done-requires
+done-requires c κs = search needs
 
 enum-known-verdict : tie.Need-enum-known-verdict
 enum-known-verdict c = search needs
@@ -38,16 +38,13 @@ denied-requires : tie.Need-denied-requires
 denied-requires c κs = search needs
 
 returns : tie.Need-returns
-returns c =
-    let s = c .before .before .before .before .before in
+returns c = let s = c .before .before .before .before .before .before in
     let p = s .before .before .before .before in
     let a = p .before .before .before .args in
-    send-done (a .status) (a .«data» .now) (p .send-beep-allowed .ensures) (s .before .before .before .if1 .taken) (s .set .ensures)
-    (c .before .before .enum-told .given .1) (c .before .with-table .ensures) (c .report .ensures)
+    send-done (a .status) (a .«data» .now) (p .send-beep-allowed .ensures) (s .before .before .before .if1 .taken) (s .set .ensures) (c .before .before .enum-told .given .1) (c .before .report .ensures) (c .done .ensures)
 
 returns-2 : tie.Need-returns-2
-returns-2 c =
-    let s = c .before .before .before .before .before in
+returns-2 c = let s = c .before .before .before .before .before .before in
     let p = s .before .before .before .before in
     let a = p .before .before .before .args in
     send-denied (a .status) (a .«data» .now) (p .send-beep-allowed .ensures) (s .before .before .before .if1 .taken) (s .set .ensures) (c .before .before .verdict .given .1) (c .denied .ensures)
@@ -56,8 +53,7 @@ denied-requires-2 : tie.Need-denied-requires-2
 denied-requires-2 c κs = search needs
 
 returns-3 : tie.Need-returns-3
-returns-3 c =
-    let p = c .before .before in
+returns-3 c = let p = c .before .before in
     let a = p .before .before .before .args in
     send-beep-denied (a .status) (a .«data» .now) (p .send-beep-allowed .ensures) (c .before .if1 .left) (c .denied2 .ensures)
 
@@ -72,8 +68,8 @@ send-spec =
     part-set-end
     set-requires
     enum-told
-    with-table-requires
     report-requires
+    done-requires
     enum-known-verdict
     denied-requires
     returns

@@ -1,13 +1,10 @@
 -- `commands::send_beep_allowed` meets its contract: FFh, then the codes that are allowed. Assumes nothing.
-use mathlib.Core.Path.{refl}
-use Rattle.commands.specs.Beeps.{sendBeepAllowed}
-use Rattle.commands.proofs.Commanding.{holds-at, send-beep-last}
+use Rattle.commands.proofs.Commanding.{send-beep-none, send-beep-last}
 use Rattle.commands.proofs.send_beep_allowed.Statement.{statement}
 use Rattle.commands.proofs.send_beep_allowed.Tie as tie
 
 returns : tie.Need-returns
-unfolding sendBeepAllowed
-returns c = record { is = holds-at sendBeepAllowed 0xFF (c .if1 .taken) refl }
+returns c = send-beep-none (c .if1 .taken)
 
 returns-2 : tie.Need-returns-2
 returns-2 c = send-beep-last (c .if1 .left)

@@ -10,8 +10,8 @@ reply-requires c κs = search needs
 answer-requires : tie.Need-answer-requires
 answer-requires c κs = search needs
 
-built-size-requires : tie.Need-built-size-requires
-built-size-requires c κs = search needs
+size-of-requires : tie.Need-size-of-requires
+size-of-requires c κs = search needs
 
 built-requires : tie.Need-built-requires
 built-requires c κs = search needs
@@ -20,7 +20,7 @@ same-length : tie.Need-same-length
 same-length c = search needs
 
 returns : tie.Need-returns
-returns c = packet-answers (c .before .before .before .before .before .reply .ensures) (c .before .before .before .before .answer .ensures) (c .built .ensures) (c .before .built-size .ensures)
+returns c = packet-answers (c .before .before .before .before .before .reply .ensures) (c .before .before .before .before .answer .ensures) (c .built .ensures) (c .before .size-of .ensures)
 
 pub mk-answer-spec : {M : Type 1} → statement M
 mk-answer-spec =
@@ -28,7 +28,7 @@ mk-answer-spec =
     (tie.spec
     reply-requires
     answer-requires
-    built-size-requires
+    size-of-requires
     built-requires
     same-length
     returns)

@@ -7,8 +7,8 @@ use Rattle.exports.proofs.mk_build.Tie as tie
 build-requires : tie.Need-build-requires
 build-requires c κs = search needs
 
-built-size-requires : tie.Need-built-size-requires
-built-size-requires c κs = search needs
+size-of-requires : tie.Need-size-of-requires
+size-of-requires c κs = search needs
 
 built-requires : tie.Need-built-requires
 built-requires c κs = search needs
@@ -17,7 +17,7 @@ same-length : tie.Need-same-length
 same-length c = search needs
 
 returns : tie.Need-returns
-returns c = packet-builds (c .before .before .before .before .build .ensures) (c .built .ensures) (c .before .built-size .ensures)
+returns c = packet-builds (c .before .before .before .before .build .ensures) (c .built .ensures) (c .before .size-of .ensures)
 
 pub mk-build-spec : {M : Type 1} → statement M
-mk-build-spec = tie.close (tie.spec build-requires built-size-requires built-requires same-length returns)
+mk-build-spec = tie.close (tie.spec build-requires size-of-requires built-requires same-length returns)

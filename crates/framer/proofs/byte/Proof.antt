@@ -7,8 +7,11 @@ use borrow.Author.Needs.{needs}
 use Rattle.framer.proofs.byte.Statement.{statement}
 use Rattle.framer.proofs.byte.Tie as tie
 
+deaf-requires : tie.Need-deaf-requires
+deaf-requires c κs = search needs
+
 returns : tie.Need-returns
-returns c = byte-deaf (omega arith) (c .if1 .taken)
+returns c = byte-deaf (omega arith) (c .before .if1 .taken) (c .deaf .ensures)
 
 begun-requires : tie.Need-begun-requires
 begun-requires c κs = search needs
@@ -31,8 +34,8 @@ check-requires c κs = search needs
 enum-known-head : tie.Need-enum-known-head
 enum-known-head c = search needs
 
-idle-requires : tie.Need-idle-requires
-idle-requires c κs = search needs
+ended-requires : tie.Need-ended-requires
+ended-requires c κs = search needs
 
 enum-known-refusal : tie.Need-enum-known-refusal
 enum-known-refusal c = search needs
@@ -46,7 +49,7 @@ same-length c = search needs
 returns-2 : tie.Need-returns-2
 returns-2 c =
     let b = c .before .before .before .before .before .before in
-    byte-packet (omega arith) (b .before .if1 .left) (b .begun .ensures) (c .before .before .before .before .check .ensures) (c .before .before .head .given .1) (c .idle .ensures)
+    byte-packet (omega arith) (b .before .if1 .left) (b .begun .ensures) (c .before .before .before .before .check .ensures) (c .before .before .head .given .1) (c .ended .ensures)
 
 same-length-2 : tie.Need-same-length-2
 same-length-2 c = search needs
@@ -60,6 +63,7 @@ pub byte-spec : {M : Type 1} → statement M
 byte-spec =
     tie.close
     (tie.spec
+    deaf-requires
     returns
     begun-requires
     slice-write-line
@@ -68,7 +72,7 @@ byte-spec =
     slice-aggregate-check
     check-requires
     enum-known-head
-    idle-requires
+    ended-requires
     enum-known-refusal
     unfinished-requires
     same-length

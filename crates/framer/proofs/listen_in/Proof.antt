@@ -23,14 +23,14 @@ part-hear-end c = search needs
 hear-requires : tie.Need-hear-requires
 hear-requires c κs = search needs
 
-last-requires : tie.Need-last-requires
-last-requires c κs = search needs
+moved-requires : tie.Need-moved-requires
+moved-requires c κs = search needs
 
 same-length : tie.Need-same-length
 same-length c = search needs
 
 returns : tie.Need-returns
-returns c = listens (search needs) (c .before .before .before .before .before .before .place .ensures) (c .last .ensures) (c .before .before .before .before .hear .ensures) (record { each = λ i. omega (arith, c .before .before .slice-known2 .given i) })
+returns c = listens (search needs) (c .before .before .before .before .before .before .place .ensures) (c .moved .ensures) (c .before .before .before .before .hear .ensures) (record { each = λ i. omega (arith, c .before .before .slice-known2 .given i) })
 
 pub listen-in-spec : {M : Type 1} → statement M
 listen-in-spec =
@@ -42,6 +42,6 @@ listen-in-spec =
     part-hear-start
     part-hear-end
     hear-requires
-    last-requires
+    moved-requires
     same-length
     returns)

@@ -10,8 +10,11 @@ number-requires c κs = search needs
 returns : tie.Need-returns
 returns c = unfinished-short (c .before .number .ensures) (c .if1 .taken)
 
+deaf-requires : tie.Need-deaf-requires
+deaf-requires c κs = search needs
+
 returns-2 : tie.Need-returns-2
-returns-2 c = unfinished-deaf (c .before .number .ensures) (c .if1 .left)
+returns-2 c = unfinished-deaf (c .before .before .number .ensures) (c .before .if1 .left) (c .deaf .ensures)
 
 pub unfinished-spec : {M : Type 1} → statement M
-unfinished-spec = tie.close (tie.spec number-requires returns returns-2)
+unfinished-spec = tie.close (tie.spec number-requires returns deaf-requires returns-2)

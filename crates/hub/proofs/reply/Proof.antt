@@ -10,20 +10,20 @@ enum-told c = search needs
 enum-told-2 : tie.Need-enum-told-2
 enum-told-2 c = search needs
 
-say-requires : tie.Need-say-requires
-say-requires c κs = search needs
+acknowledge-requires : tie.Need-acknowledge-requires
+acknowledge-requires c κs = search needs
 
 enum-told-3 : tie.Need-enum-told-3
 enum-told-3 c = search needs
 
-say-requires-2 : tie.Need-say-requires-2
-say-requires-2 c κs = search needs
+acknowledge-requires-2 : tie.Need-acknowledge-requires-2
+acknowledge-requires-2 c κs = search needs
 
 enum-told-4 : tie.Need-enum-told-4
 enum-told-4 c = search needs
 
-say-requires-3 : tie.Need-say-requires-3
-say-requires-3 c κs = search needs
+acknowledge-requires-3 : tie.Need-acknowledge-requires-3
+acknowledge-requires-3 c κs = search needs
 
 enum-known-told : tie.Need-enum-known-told
 enum-known-told c = search needs
@@ -38,19 +38,19 @@ same-length : tie.Need-same-length
 same-length c = search needs
 
 returns-2 : tie.Need-returns-2
-returns-2 c = replies (c .before .before .before .before .enum-told2 .given .1) (c .before .before .say .ensures)
+returns-2 c = replies (c .before .before .before .before .enum-told2 .given .1) (c .before .before .acknowledge .ensures)
 
 same-length-2 : tie.Need-same-length-2
 same-length-2 c = search needs
 
 returns-3 : tie.Need-returns-3
-returns-3 c = replies (c .before .before .before .before .enum-told3 .given .1) (c .before .before .say2 .ensures)
+returns-3 c = replies (c .before .before .before .before .enum-told3 .given .1) (c .before .before .acknowledge2 .ensures)
 
 same-length-3 : tie.Need-same-length-3
 same-length-3 c = search needs
 
 returns-4 : tie.Need-returns-4
-returns-4 c = replies (c .before .before .before .before .enum-told4 .given .1) (c .before .before .say3 .ensures)
+returns-4 c = replies (c .before .before .before .before .enum-told4 .given .1) (c .before .before .acknowledge3 .ensures)
 
 same-length-4 : tie.Need-same-length-4
 same-length-4 c = search needs
@@ -64,11 +64,11 @@ reply-spec =
     (tie.spec
     enum-told
     enum-told-2
-    say-requires
+    acknowledge-requires
     enum-told-3
-    say-requires-2
+    acknowledge-requires-2
     enum-told-4
-    say-requires-3
+    acknowledge-requires-3
     enum-known-told
     refuse-requires
     returns

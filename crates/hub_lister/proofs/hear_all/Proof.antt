@@ -1,5 +1,6 @@
 -- `hub_lister::hear_all` meets its contract: the loop keeps the run over the characters passed. Assumes nothing.
-use Rattle.hub_lister.specs.Promises.{readingOf, most}
+use Rattle.hub_lister.specs.Promises.{readingOf, codedSize, linesSize}
+use Rattle.hub.specs.Promises.{hubAnswerSize}
 use Rattle.hub_lister.specs.Listing.{acts}
 use Rattle.listing.proofs.Reading.{Listing, listing-none, listing-more, listing-all, listing-left, room-for}
 use borrow.Author.Needs.{needs}
@@ -12,7 +13,7 @@ use Rattle.hub_lister.proofs.hear_all.Tie as tie
 
 abbrev Inv-loop : tie.InvT-loop
 Inv-loop line₀ gather₀ answer₀ message₀ text room₀ present₀ i₀ at₀ line gather answer message room present i at =
-    Listing acts most (readingOf present₀ line₀ gather₀) text room₀ (readingOf present line gather) room i at × (length answer ≡ 7) × (length message ≡ 4097)
+    Listing acts linesSize (readingOf present₀ line₀ gather₀) text room₀ (readingOf present line gather) room i at × (length answer ≡ hubAnswerSize) × (length message ≡ codedSize)
 
 abbrev μ-loop : tie.MeasureT-loop
 μ-loop line₀ gather₀ answer₀ message₀ text room₀ present₀ i₀ at₀ line gather answer message room present i at =

@@ -17,8 +17,8 @@ fill-requires c κs = search needs
 enum-known-reply : tie.Need-enum-known-reply
 enum-known-reply c = search needs
 
-nak-requires : tie.Need-nak-requires
-nak-requires c κs = search needs
+with-cause-requires : tie.Need-with-cause-requires
+with-cause-requires c κs = search needs
 
 same-length : tie.Need-same-length
 same-length c = search needs
@@ -30,7 +30,7 @@ same-length-2 : tie.Need-same-length-2
 same-length-2 c = search needs
 
 returns-3 : tie.Need-returns-3
-returns-3 c = answer-nak (c .before .before .before .before .before .reply .given .1) (c .before .before .nak .ensures)
+returns-3 c = answer-nak (c .before .before .before .before .before .reply .given .1) (c .before .before .with-cause .ensures)
 
 pub answer-spec : {M : Type 1} → statement M
 answer-spec =
@@ -40,7 +40,7 @@ answer-spec =
     enum-told
     fill-requires
     enum-known-reply
-    nak-requires
+    with-cause-requires
     same-length
     returns-2
     same-length-2

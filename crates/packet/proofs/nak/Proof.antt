@@ -1,31 +1,27 @@
--- `packet::nak` meets its contract: the cause put into the room and filled around. Assumes nothing.
-use mathlib.Core.Path.{_∙_}
+-- `packet::nak` meets its contract: 13, nothing for a refusal that nothing answers, or the NAK of its cause. Assumes nothing.
 use native.Mathlib.Omega.{arith}
-use lib.ListN.{length-set}
-use Rattle.packet.proofs.Writing.{nak-source, nak-written}
+use Rattle.packet.proofs.Writing.{nak-room, nak-silent, nak-said}
 use borrow.Author.Needs.{needs}
 use Rattle.packet.proofs.nak.Statement.{statement}
 use Rattle.packet.proofs.nak.Tie as tie
 
-source-allowed-requires : tie.Need-source-allowed-requires
-source-allowed-requires c κs = search needs
-
-slice-write-room : tie.Need-slice-write-room
-slice-write-room c = search needs
-
-fill-requires : tie.Need-fill-requires
-fill-requires c κs = search needs
-
-same-length : tie.Need-same-length
-same-length c = c .before .before .fill .kept .0 ∙ simp length-set
-
 returns : tie.Need-returns
-returns c = nak-written (omega arith) (c .before .before .before .before .before .source-allowed .ensures) (c .before .before .before .before .if1 .taken) (c .before .before .fill .ensures)
+returns c = nak-room (omega arith)
+
+cause-requires : tie.Need-cause-requires
+cause-requires c κs = search needs
 
 returns-2 : tie.Need-returns-2
-returns-2 c = nak-source (omega arith) (c .before .source-allowed .ensures) (c .if1 .left)
+returns-2 c = nak-silent (omega arith) (c .before .cause .ensures) (c .if2 .taken)
+
+with-cause-requires : tie.Need-with-cause-requires
+with-cause-requires c κs = search needs
+
+same-length : tie.Need-same-length
+same-length c = search needs
+
+returns-3 : tie.Need-returns-3
+returns-3 c = nak-said (omega arith) (c .before .before .before .before .before .cause .ensures) (c .before .before .before .before .if2 .left) (c .before .before .with-cause .ensures)
 
 pub nak-spec : {M : Type 1} → statement M
-nak-spec =
-    tie.close
-    (tie.spec source-allowed-requires slice-write-room fill-requires same-length returns returns-2)
+nak-spec = tie.close (tie.spec returns cause-requires returns-2 with-cause-requires same-length returns-3)

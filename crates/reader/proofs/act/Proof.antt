@@ -18,6 +18,12 @@ slice-aggregate-copy c = simp length-take (omega arith)
 copy-requires : tie.Need-copy-requires
 copy-requires c κs = search needs
 
+core-with-requires : tie.Need-core-with-requires
+core-with-requires c κs = search needs
+
+step-requires : tie.Need-step-requires
+step-requires c κs = search needs
+
 same-length : tie.Need-same-length
 same-length c = search needs
 
@@ -25,7 +31,7 @@ same-length-2 : tie.Need-same-length-2
 same-length-2 c = search needs
 
 returns : tie.Need-returns
-returns c = acts-answered (c .before .before .before .before .before .before .before .before .before .before .before .before .before .before .pre .0) (c .before .before .before .before .before .before .before .answer-to .ensures) (c .before .before .copy .ensures)
+returns c = acts-answered (c .before .before .before .before .before .before .before .before .before .before .before .before .before .before .before .before .pre .0) (c .before .before .before .before .before .before .before .before .before .before .answer-to .ensures) (c .before .before .before .before .before .copy .ensures) (c .before .core-with .ensures) (c .step .ensures)
 
 pub act-spec : {M : Type 1} → statement M
 act-spec =
@@ -35,6 +41,8 @@ act-spec =
     slice-reshare-prefix-copy
     slice-aggregate-copy
     copy-requires
+    core-with-requires
+    step-requires
     same-length
     same-length-2
     returns)

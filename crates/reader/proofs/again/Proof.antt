@@ -12,11 +12,15 @@ slice-aggregate-copy c = simp length-take (omega arith)
 copy-requires : tie.Need-copy-requires
 copy-requires c κs = search needs
 
+step-requires : tie.Need-step-requires
+step-requires c κs = search needs
+
 same-length : tie.Need-same-length
 same-length c = search needs
 
 returns : tie.Need-returns
-returns c = again-same (c .before .before .before .before .before .before .before .pre .0) (omega arith) (c .before .before .copy .ensures)
+returns c = again-same (c .before .before .before .before .before .before .before .before .pre .0) (omega arith) (c .before .before .before .copy .ensures) (c .step .ensures)
 
 pub again-spec : {M : Type 1} → statement M
-again-spec = tie.close (tie.spec slice-aggregate-copy copy-requires same-length returns)
+again-spec =
+    tie.close (tie.spec slice-aggregate-copy copy-requires step-requires same-length returns)

@@ -18,8 +18,8 @@ no-room-requires-2 c κs = search needs
 returns-2 : tie.Need-returns-2
 returns-2 c = hear-copy (omega arith) (omega arith) (c .no-room2 .ensures)
 
-core-of-requires : tie.Need-core-of-requires
-core-of-requires c κs = search needs
+sound-core-requires : tie.Need-sound-core-requires
+sound-core-requires c κs = search needs
 
 listen-requires : tie.Need-listen-requires
 listen-requires c κs = search needs
@@ -27,8 +27,8 @@ listen-requires c κs = search needs
 enum-told : tie.Need-enum-told
 enum-told c = search needs
 
-quiet-requires : tie.Need-quiet-requires
-quiet-requires c κs = search needs
+step-requires : tie.Need-step-requires
+step-requires c κs = search needs
 
 settle-requires : tie.Need-settle-requires
 settle-requires c κs = search needs
@@ -46,23 +46,18 @@ enum-known-found-2 : tie.Need-enum-known-found-2
 enum-known-found-2 c = search needs
 
 received-requires : tie.Need-received-requires
-received-requires c κs =
-    let w = listened-packet (c .before .before .before .before .before .before .before .before .listen .ensures) (c .before .before .before .before .before .found2 .given .1) in
-    let s = c .before .before .before .before .before .before .before .before .before .before .core-of .ensures in
+received-requires c κs = let w = listened-packet (c .before .before .before .before .before .before .before .before .listen .ensures) (c .before .before .before .before .before .found2 .given .1) in
+    let s = c .before .before .before .before .before .before .before .before .before .before .sound-core .ensures in
     (s .few, s .long, search needs, search needs, w .least, w .most)
 
 returns-3 : tie.Need-returns-3
-returns-3 c =
-    let s = c .before .before .before .before .before .before .before in
-    hear-nothing (c .before .before .before .before .before .listen .ensures) (omega (arith, s .before .before .before .before .if1 .left)) (omega (arith, s .before .before .before .if2 .left)) (s .core-of .ensures) (c .before .before .enum-told .given .1) (c .before .quiet .ensures) (c .settle .ensures)
+returns-3 c = hear-nothing (c .before .before .before .before .before .listen .ensures) (omega (arith, c .before .before .before .before .before .before .before .before .before .before .before .if1 .left)) (omega (arith, c .before .before .before .before .before .before .before .before .before .before .if2 .left)) (c .before .before .before .before .before .before .before .sound-core .ensures) (c .before .before .enum-told .given .1) (c .before .step .ensures) (c .settle .ensures)
 
 same-length : tie.Need-same-length
 same-length c = search needs
 
 returns-4 : tie.Need-returns-4
-returns-4 c =
-    let s = c .before .before .before .before .before .before .before .before .before .before .before in
-    hear-refused (c .before .before .before .before .before .before .before .before .before .listen .ensures) (omega (arith, s .before .before .before .before .if1 .left)) (omega (arith, s .before .before .before .if2 .left)) (s .core-of .ensures) (c .before .before .before .before .before .before .found .given .1) (c .before .before .before .no-packet .ensures) (c .settle2 .ensures)
+returns-4 c = hear-refused (c .before .before .before .before .before .before .before .before .before .listen .ensures) (omega (arith, c .before .before .before .before .before .before .before .before .before .before .before .before .before .before .before .if1 .left)) (omega (arith, c .before .before .before .before .before .before .before .before .before .before .before .before .before .before .if2 .left)) (c .before .before .before .before .before .before .before .before .before .before .before .sound-core .ensures) (c .before .before .before .before .before .before .found .given .1) (c .before .before .before .no-packet .ensures) (c .settle2 .ensures)
 
 same-length-2 : tie.Need-same-length-2
 same-length-2 c = search needs
@@ -71,9 +66,7 @@ same-length-3 : tie.Need-same-length-3
 same-length-3 c = search needs
 
 returns-5 : tie.Need-returns-5
-returns-5 c =
-    let s = c .before .before .before .before .before .before .before .before .before .before .before .before .before .before .before in
-    hear-packet (c .before .before .before .before .before .before .before .before .before .before .before .before .before .listen .ensures) (omega (arith, s .before .before .before .before .if1 .left)) (omega (arith, s .before .before .before .if2 .left)) (s .core-of .ensures) (c .before .before .before .before .before .before .before .before .before .before .found2 .given .1) (c .before .before .before .before .received .ensures)
+returns-5 c = hear-packet (c .before .before .before .before .before .before .before .before .before .before .before .before .before .listen .ensures) (omega (arith, c .before .before .before .before .before .before .before .before .before .before .before .before .before .before .before .before .before .before .before .if1 .left)) (omega (arith, c .before .before .before .before .before .before .before .before .before .before .before .before .before .before .before .before .before .before .if2 .left)) (c .before .before .before .before .before .before .before .before .before .before .before .before .before .before .before .sound-core .ensures) (c .before .before .before .before .before .before .before .before .before .before .found2 .given .1) (c .before .before .before .before .received .ensures)
 
 pub hear-spec : {M : Type 1} → statement M
 hear-spec =
@@ -83,10 +76,10 @@ hear-spec =
     returns
     no-room-requires-2
     returns-2
-    core-of-requires
+    sound-core-requires
     listen-requires
     enum-told
-    quiet-requires
+    step-requires
     settle-requires
     enum-known-found
     no-packet-requires

@@ -1,17 +1,8 @@
--- `reader::judge` meets its contract: one law for each answer, in the order of the tests. Assumes nothing.
-use Rattle.reader.proofs.Judging.{judges-source, judges-status, judges-repeat, judges-perform}
+-- `reader::judge` meets its contract: 4 to 6, then the command. Assumes nothing.
+use Rattle.reader.proofs.Judging.{judges-source, judges-status, judges-opcode, judges-known}
 use borrow.Author.Needs.{needs}
 use Rattle.reader.proofs.judge.Statement.{statement}
 use Rattle.reader.proofs.judge.Tie as tie
-
-shared-slice-read-opcode : tie.Need-shared-slice-read-opcode
-shared-slice-read-opcode c = search needs
-
-shared-slice-read-status : tie.Need-shared-slice-read-status
-shared-slice-read-status c = search needs
-
-data-part-requires : tie.Need-data-part-requires
-data-part-requires c κs = search needs
 
 shared-slice-read-if1 : tie.Need-shared-slice-read-if1
 shared-slice-read-if1 c = search needs
@@ -23,74 +14,81 @@ same-length : tie.Need-same-length
 same-length c = search needs
 
 returns : tie.Need-returns
-returns c = judges-source (c .before .before .before .before .before .before .before .before .before .before .before .before .before .pre .0) (c .before .before .before .before .if1 .taken) (c .before .before .refuse .ensures)
+returns c = judges-source (c .before .before .before .before .before .before .before .before .before .before .pre .0) (c .before .before .before .before .if1 .taken) (c .before .before .refuse .ensures)
+
+shared-slice-read-status-allowed : tie.Need-shared-slice-read-status-allowed
+shared-slice-read-status-allowed c = search needs
+
+shared-slice-read-status-allowed-2 : tie.Need-shared-slice-read-status-allowed-2
+shared-slice-read-status-allowed-2 c = search needs
 
 status-allowed-requires : tie.Need-status-allowed-requires
 status-allowed-requires c κs = search needs
 
-resent-equal-requires : tie.Need-resent-equal-requires
-resent-equal-requires c κs = search needs
+shared-slice-read-named-by : tie.Need-shared-slice-read-named-by
+shared-slice-read-named-by c = search needs
 
-repeat-requires : tie.Need-repeat-requires
-repeat-requires c κs = search needs
+named-by-requires : tie.Need-named-by-requires
+named-by-requires c κs = search needs
 
-same-length-2 : tie.Need-same-length-2
-same-length-2 c = search needs
-
-same-length-3 : tie.Need-same-length-3
-same-length-3 c = search needs
-
-returns-2 : tie.Need-returns-2
-returns-2 c =
-    let w = c .before .before .before .before .before .before .before .before in
-    judges-repeat (w .before .if1 .left) (w .status-allowed .ensures) (c .before .before .before .before .before .before .before .if2 .taken) (c .before .before .before .before .before .before .resent-equal .ensures) (w .before .before .before .data-part .ensures) (c .before .before .before .before .before .if3 .taken) (c .before .before .repeat .ensures)
-
-perform-requires : tie.Need-perform-requires
-perform-requires c κs = search needs
-
-same-length-4 : tie.Need-same-length-4
-same-length-4 c = search needs
-
-same-length-5 : tie.Need-same-length-5
-same-length-5 c = search needs
-
-returns-3 : tie.Need-returns-3
-returns-3 c =
-    let w = c .before .before .before .before .before .before .before .before .before .before in
-    judges-perform (w .before .if1 .left) (w .status-allowed .ensures) (c .before .before .before .before .before .before .before .before .before .if2 .taken) (c .before .before .before .before .before .before .before .before .resent-equal .ensures) (w .before .before .before .data-part .ensures) (c .before .before .before .before .before .before .before .if3 .left) (c .before .before .before .before .perform .ensures)
+enum-told : tie.Need-enum-told
+enum-told c = search needs
 
 refuse-requires-2 : tie.Need-refuse-requires-2
 refuse-requires-2 c κs = search needs
 
-same-length-6 : tie.Need-same-length-6
-same-length-6 c = search needs
+enum-known-command : tie.Need-enum-known-command
+enum-known-command c = search needs
+
+known-requires : tie.Need-known-requires
+known-requires c κs = search needs
+
+same-length-2 : tie.Need-same-length-2
+same-length-2 c = search needs
+
+returns-2 : tie.Need-returns-2
+returns-2 c = judges-opcode (c .before .before .before .before .before .before .before .before .before .before .before .before .before .before .before .before .before .before .pre .0) (c .before .before .before .before .before .before .before .before .before .before .before .before .if1 .left) (c .before .before .before .before .before .before .before .before .before .status-allowed .ensures) (c .before .before .before .before .before .before .before .before .if2 .taken) (c .before .before .before .before .before .before .named-by .ensures) (c .before .before .before .before .enum-told .given .1) (c .before .before .refuse2 .ensures)
+
+same-length-3 : tie.Need-same-length-3
+same-length-3 c = search needs
+
+same-length-4 : tie.Need-same-length-4
+same-length-4 c = search needs
+
+returns-3 : tie.Need-returns-3
+returns-3 c = judges-known (c .before .before .before .before .before .before .before .before .before .before .before .before .before .before .before .before .before .before .before .before .before .before .pre .0) (c .before .before .before .before .before .before .before .before .before .before .before .before .before .before .before .before .if1 .left) (c .before .before .before .before .before .before .before .before .before .before .before .before .before .status-allowed .ensures) (c .before .before .before .before .before .before .before .before .before .before .before .before .if2 .taken) (c .before .before .before .before .before .before .before .before .before .before .named-by .ensures) (c .before .before .before .before .before .before .before .before .command .given .1) (c .before .before .before .before .known .ensures)
+
+refuse-requires-3 : tie.Need-refuse-requires-3
+refuse-requires-3 c κs = search needs
+
+same-length-5 : tie.Need-same-length-5
+same-length-5 c = search needs
 
 returns-4 : tie.Need-returns-4
-returns-4 c =
-    let w = c .before .before .before .before .before in
-    judges-status (w .before .if1 .left) (w .status-allowed .ensures) (c .before .before .before .before .before .before .before .before .before .before .before .before .before .before .before .pre .0) (c .before .before .before .before .if2 .left) (c .before .before .refuse2 .ensures)
+returns-4 c = judges-status (c .before .before .before .before .before .before .before .before .before .before .before .before .before .before .pre .0) (c .before .before .before .before .before .before .before .before .if1 .left) (c .before .before .before .before .before .status-allowed .ensures) (c .before .before .before .before .if2 .left) (c .before .before .refuse3 .ensures)
 
 pub judge-spec : {M : Type 1} → statement M
 judge-spec =
     tie.close
     (tie.spec
-    shared-slice-read-opcode
-    shared-slice-read-status
-    data-part-requires
     shared-slice-read-if1
     refuse-requires
     same-length
     returns
+    shared-slice-read-status-allowed
+    shared-slice-read-status-allowed-2
     status-allowed-requires
-    resent-equal-requires
-    repeat-requires
-    same-length-2
-    same-length-3
-    returns-2
-    perform-requires
-    same-length-4
-    same-length-5
-    returns-3
+    shared-slice-read-named-by
+    named-by-requires
+    enum-told
     refuse-requires-2
-    same-length-6
+    enum-known-command
+    known-requires
+    same-length-2
+    returns-2
+    same-length-3
+    same-length-4
+    returns-3
+    refuse-requires-3
+    same-length-5
     returns-4)

@@ -1,5 +1,4 @@
 -- `reader::to_sender` meets its contract: what the sender heeds of the packet is a step of the sender. Assumes nothing.
-use native.Mathlib.Omega.{arith}
 use Rattle.reader.proofs.Answering.{sender-hears}
 use borrow.Author.Needs.{needs}
 use Rattle.reader.proofs.to_sender.Statement.{statement}
@@ -23,13 +22,14 @@ heed-requires c κs = search needs
 hear-requires : tie.Need-hear-requires
 hear-requires c κs = search needs
 
+core-with-requires : tie.Need-core-with-requires
+core-with-requires c κs = search needs
+
 same-length : tie.Need-same-length
 same-length c = search needs
 
 returns : tie.Need-returns
-returns c =
-    let i = c .before .before .before .before in
-    sender-hears (omega arith) (i .before .before .before .data-part .ensures) (i .before .before .heed .ensures) (i .hear .ensures)
+returns c = sender-hears (c .before .before .before .before .before .before .before .before .before .before .before .before .before .before .pre .0) (c .before .before .before .before .before .before .before .before .data-part .ensures) (c .before .before .before .before .before .before .before .heed .ensures) (c .before .before .before .before .before .hear .ensures) (c .core-with .ensures)
 
 pub to-sender-spec : {M : Type 1} → statement M
 to-sender-spec =
@@ -41,5 +41,6 @@ to-sender-spec =
     data-part-requires
     heed-requires
     hear-requires
+    core-with-requires
     same-length
     returns)

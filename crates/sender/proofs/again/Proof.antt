@@ -6,20 +6,23 @@ use borrow.Author.Needs.{needs}
 use Rattle.sender.proofs.again.Statement.{statement}
 use Rattle.sender.proofs.again.Tie as tie
 
-add-t6 : tie.Need-add-t6
-add-t6 c = search needs
+add-moved : tie.Need-add-moved
+add-moved c = search needs
 
-add-t7 : tie.Need-add-t7
-add-t7 c = search needs
+add-moved-2 : tie.Need-add-moved-2
+add-moved-2 c = search needs
+
+moved-requires : tie.Need-moved-requires
+moved-requires c κs = search needs
 
 present-requires : tie.Need-present-requires
-present-requires c κs = (again-out (c .before .before .before .before .before .before .before .pre .0) (omega arith), omega arith, omega arith, omega arith)
+present-requires c κs = (again-out (c .before .before .before .before .before .before .before .before .pre .0) (omega arith) (c .before .moved .ensures), omega arith, omega arith, omega arith)
 
 same-length : tie.Need-same-length
 same-length c = search needs
 
 returns : tie.Need-returns
-returns c = again-copy (c .before .before .before .before .before .before .before .before .before .before .pre .0) (omega arith) (c .before .before .present .ensures)
+returns c = again-copy (c .before .before .before .before .before .before .before .before .before .before .before .pre .0) (omega arith) (c .before .before .before .before .moved .ensures) (c .before .before .present .ensures)
 
 failed-requires : tie.Need-failed-requires
 failed-requires c κs = search needs
@@ -30,4 +33,12 @@ returns-2 c = again-failed (c .before .before .before .before .before .pre .0) (
 pub again-spec : {M : Type 1} → statement M
 again-spec =
     tie.close
-    (tie.spec add-t6 add-t7 present-requires same-length returns failed-requires returns-2)
+    (tie.spec
+    add-moved
+    add-moved-2
+    moved-requires
+    present-requires
+    same-length
+    returns
+    failed-requires
+    returns-2)

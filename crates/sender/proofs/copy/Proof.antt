@@ -34,6 +34,9 @@ enum-known-size c = search needs
 enum-known-refusal : tie.Need-enum-known-refusal
 enum-known-refusal c = search needs
 
+refused-requires : tie.Need-refused-requires
+refused-requires c κs = search needs
+
 same-length : tie.Need-same-length
 same-length c = c .before .before .before .before .before .fill .kept .0 ∙ (c .before .before .before .before .before .before .before .before .room .given .1 ∙ simp length-set)
 
@@ -41,10 +44,10 @@ returns : tie.Need-returns
 returns c = copy-written (copy-packed (omega arith) (omega arith) (omega arith) refl (c .before .before .before .before .before .before .before .before .before .copy .ensures) (c .before .before .before .before .before .fill .ensures)) (c .before .size .given .1)
 
 same-length-2 : tie.Need-same-length-2
-same-length-2 c = c .before .before .before .before .before .fill .kept .0 ∙ (c .before .before .before .before .before .before .before .before .room .given .1 ∙ simp length-set)
+same-length-2 c = c .before .before .before .before .before .before .fill .kept .0 ∙ (c .before .before .before .before .before .before .before .before .before .room .given .1 ∙ simp length-set)
 
 returns-2 : tie.Need-returns-2
-returns-2 c = copy-never (copy-packed (omega arith) (omega arith) (omega arith) refl (c .before .before .before .before .before .before .before .before .before .copy .ensures) (c .before .before .before .before .before .fill .ensures)) (c .before .refusal .given .1)
+returns-2 c = copy-never (copy-packed (omega arith) (omega arith) (omega arith) refl (c .before .before .before .before .before .before .before .before .before .before .copy .ensures) (c .before .before .before .before .before .before .fill .ensures)) (c .before .before .refusal .given .1)
 
 pub copy-spec : {M : Type 1} → statement M
 copy-spec =
@@ -59,6 +62,7 @@ copy-spec =
     fill-requires
     enum-known-size
     enum-known-refusal
+    refused-requires
     same-length
     returns
     same-length-2

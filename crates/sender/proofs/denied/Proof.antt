@@ -1,4 +1,4 @@
--- `sender::denied` meets its contract: cause 1 is answered like a time-out. Assumes nothing.
+-- `sender::denied` meets its contract: cause 1 is outStep like a time-out. Assumes nothing.
 use Rattle.sender.proofs.Answering.{denied-again, denied-failed}
 use borrow.Author.Needs.{needs}
 use Rattle.sender.proofs.denied.Statement.{statement}

@@ -17,8 +17,8 @@ returns-3 c = heed-ack (omega arith) (omega arith) (omega arith) (omega arith)
 returns-4 : tie.Need-returns-4
 returns-4 c = heed-ack-data (omega arith) (omega arith) (omega arith) (c .if4 .left)
 
-shared-slice-read-t12 : tie.Need-shared-slice-read-t12
-shared-slice-read-t12 c = search needs
+shared-slice-read-t13 : tie.Need-shared-slice-read-t13
+shared-slice-read-t13 c = search needs
 
 returns-5 : tie.Need-returns-5
 returns-5 c = heed-nak (omega arith) (omega arith) (c .before .before .before .if3 .left) (omega arith) (omega arith)
@@ -37,7 +37,7 @@ heed-spec =
     returns-2
     returns-3
     returns-4
-    shared-slice-read-t12
+    shared-slice-read-t13
     returns-5
     returns-6
     returns-7)

@@ -9,17 +9,20 @@ use Rattle.sender.proofs.onward.Tie as tie
 sub-if1 : tie.Need-sub-if1
 sub-if1 c = search needs
 
-add-t7 : tie.Need-add-t7
-add-t7 c = search needs
+add-moved : tie.Need-add-moved
+add-moved c = search needs
+
+moved-requires : tie.Need-moved-requires
+moved-requires c κs = search needs
 
 present-requires : tie.Need-present-requires
-present-requires c κs = (onward-out (c .before .before .before .before .before .before .pre .0) (omega arith), omega arith, omega arith, omega arith)
+present-requires c κs = (onward-out (c .before .before .before .before .before .before .before .pre .0) (omega arith) (c .before .moved .ensures), omega arith, omega arith, omega arith)
 
 same-length : tie.Need-same-length
 same-length c = search needs
 
 returns : tie.Need-returns
-returns c = onward-next (c .before .before .before .before .before .before .before .before .before .pre .0) (omega arith) (omega arith) (c .before .before .present .ensures)
+returns c = onward-next (c .before .before .before .before .before .before .before .before .before .before .pre .0) (omega arith) (omega arith) (c .before .before .before .before .moved .ensures) (c .before .before .present .ensures)
 
 idle-requires : tie.Need-idle-requires
 idle-requires c κs = search needs
@@ -30,4 +33,12 @@ returns-2 c = onward-delivered (c .before .before .before .before .before .pre .
 pub onward-spec : {M : Type 1} → statement M
 onward-spec =
     tie.close
-    (tie.spec sub-if1 add-t7 present-requires same-length returns idle-requires returns-2)
+    (tie.spec
+    sub-if1
+    add-moved
+    moved-requires
+    present-requires
+    same-length
+    returns
+    idle-requires
+    returns-2)

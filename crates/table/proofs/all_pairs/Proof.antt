@@ -3,8 +3,7 @@
 use lib.ListN.{length-set}
 use Prim.Native.Nat.{_-_}
 use native.Mathlib.Omega.{arith}
-use Rattle.table.specs.Rows.{rows}
-use Rattle.table.proofs.Finding.{rowCount}
+use Rattle.table.specs.Rows.{parameterCount, rows}
 use Rattle.table.proofs.Answering.{Listing, listing-none, listing-more, listing-all}
 use Rattle.table.proofs.all_pairs.Statement.{statement}
 use Rattle.table.proofs.all_pairs.Tie as tie
@@ -13,7 +12,7 @@ abbrev Inv-loop : tie.InvT-loop
 Inv-loop room₀ values i₀ room i = Listing values room₀ room i
 
 abbrev μ-loop : tie.MeasureT-loop
-μ-loop room₀ values i₀ room i = rowCount - i
+μ-loop room₀ values i₀ room i = parameterCount - i
 
 loop-holds : tie.Need-loop-holds Inv-loop μ-loop
 unfolding rows

@@ -3,8 +3,8 @@
 use Prim.Native.Nat.{_-_}
 use native.Mathlib.Omega.{arith}
 use borrow.Author.Needs.{needs}
-use Rattle.table.specs.Rows.{rows}
-use Rattle.table.proofs.Finding.{rowCount, Housing, housing-none, housing-more, housing-all}
+use Rattle.table.specs.Rows.{parameterCount, rows}
+use Rattle.table.proofs.Finding.{Housing, housing-none, housing-more, housing-all}
 use Rattle.table.proofs.house.Statement.{statement}
 use Rattle.table.proofs.house.Tie as tie
 
@@ -12,7 +12,7 @@ abbrev Inv-loop : tie.InvT-loop
 Inv-loop values₀ i₀ values i = Housing values i
 
 abbrev μ-loop : tie.MeasureT-loop
-μ-loop values₀ i₀ values i = rowCount - i
+μ-loop values₀ i₀ values i = parameterCount - i
 
 loop-holds : tie.Need-loop-holds Inv-loop μ-loop
 unfolding rows

@@ -1,6 +1,6 @@
 -- `table::place` meets its contract: at each turn no row passed has the number. The measure is what is left of the rows. Assumes nothing.
-use Rattle.table.specs.Rows.{rows}
-use Rattle.table.proofs.Finding.{rowCount, Looking, looking-none, looking-more, looking-found, looking-all}
+use Rattle.table.specs.Rows.{parameterCount, rows}
+use Rattle.table.proofs.Finding.{Looking, looking-none, looking-more, looking-found, looking-all}
 use Prim.Native.Nat.{_-_}
 use native.Mathlib.Omega.{arith}
 use Rattle.table.proofs.place.Statement.{statement}
@@ -10,7 +10,7 @@ abbrev Inv-loop : tie.InvT-loop
 Inv-loop number i₀ i = Looking number i
 
 abbrev μ-loop : tie.MeasureT-loop
-μ-loop number i₀ i = rowCount - i
+μ-loop number i₀ i = parameterCount - i
 
 loop-holds : tie.Need-loop-holds Inv-loop μ-loop
 loop-holds c = looking-none

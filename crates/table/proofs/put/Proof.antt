@@ -1,5 +1,4 @@
 -- `table::put` meets its contract: a store at its place, none where it has none. Assumes nothing.
-use Rattle.table.specs.Rows.{rows}
 use native.Mathlib.Omega.{arith}
 use Rattle.table.proofs.Setting.{put-at, put-none}
 use borrow.Author.Needs.{needs}
@@ -16,7 +15,6 @@ returns : tie.Need-returns
 returns c = put-at (c .before .place .ensures)
 
 returns-2 : tie.Need-returns-2
-unfolding rows
 returns-2 c = put-none (c .before .before .pre) (c .before .place .ensures) (omega arith)
 
 pub put-spec : {M : Type 1} → statement M

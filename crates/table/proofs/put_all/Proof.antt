@@ -3,7 +3,6 @@ use Prim.Native.Nat.{_-_}
 use native.Mathlib.Omega.{arith}
 use borrow.Author.Needs.{needs}
 use lib.ListN.{length}
-use Rattle.table.specs.Rows.{rows}
 use Rattle.table.proofs.Setting.{Putting, putting-none, putting-more, putting-all}
 use Rattle.table.proofs.put_all.Statement.{statement}
 use Rattle.table.proofs.put_all.Tie as tie
@@ -15,7 +14,6 @@ abbrev μ-loop : tie.MeasureT-loop
 μ-loop pairs next₀ i₀ next i = length pairs - i
 
 loop-holds : tie.Need-loop-holds Inv-loop μ-loop
-unfolding rows
 loop-holds c = putting-none (c .before .pre) (search needs)
 
 shared-slice-read-put : tie.Need-shared-slice-read-put Inv-loop μ-loop

@@ -2,7 +2,8 @@
 use mathlib.Core.Path.{_≡_}
 use lib.ListN.{length}
 use native.Mathlib.Omega.{arith}
-use Rattle.table.proofs.Finding.{rowCount, value-found, value-none}
+use Rattle.table.specs.Rows.{parameterCount}
+use Rattle.table.proofs.Finding.{value-found, value-none}
 use borrow.Author.Needs.{needs}
 use Rattle.table.proofs.value.Statement.{statement}
 use Rattle.table.proofs.value.Tie as tie
@@ -17,7 +18,7 @@ returns : tie.Need-returns
 returns c = value-found (c .before .before .place .ensures)
 
 returns-2 : tie.Need-returns-2
-returns-2 c = let l : length (c .before .before .before .args .table .present) ≡ rowCount = search needs in
+returns-2 c = let l : length (c .before .before .before .args .table .present) ≡ parameterCount = search needs in
     value-none (c .before .before .place .ensures) (omega arith)
 
 pub value-spec : {M : Type 1} → statement M

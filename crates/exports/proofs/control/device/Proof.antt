@@ -7,17 +7,17 @@ use Rattle.exports.proofs.control.device.Tie as tie
 table-requires : tie.Need-table-requires
 table-requires c κs = search needs
 
-shared-slice-read-t4 : tie.Need-shared-slice-read-t4
-shared-slice-read-t4 c = search needs
+shared-slice-read-t5 : tie.Need-shared-slice-read-t5
+shared-slice-read-t5 c = search needs
 
-shared-slice-read-t7 : tie.Need-shared-slice-read-t7
-shared-slice-read-t7 c = search needs
+shared-slice-read-t8 : tie.Need-shared-slice-read-t8
+shared-slice-read-t8 c = search needs
 
-shared-slice-read-t10 : tie.Need-shared-slice-read-t10
-shared-slice-read-t10 c = search needs
+shared-slice-read-t11 : tie.Need-shared-slice-read-t11
+shared-slice-read-t11 c = search needs
 
-shared-slice-read-t13 : tie.Need-shared-slice-read-t13
-shared-slice-read-t13 c = search needs
+shared-slice-read-t14 : tie.Need-shared-slice-read-t14
+shared-slice-read-t14 c = search needs
 
 returns : tie.Need-returns
 returns c = device-in (c .before .before .before .before .table .ensures)
@@ -27,8 +27,8 @@ device-spec =
     tie.close
     (tie.spec
     table-requires
-    shared-slice-read-t4
-    shared-slice-read-t7
-    shared-slice-read-t10
-    shared-slice-read-t13
+    shared-slice-read-t5
+    shared-slice-read-t8
+    shared-slice-read-t11
+    shared-slice-read-t14
     returns)

@@ -4,14 +4,14 @@ use Prim.Native.Nat.{_≤_}
 use mathlib.Core.Path.{_≡_}
 use lib.ListN.{length}
 use borrow.Author.Needs.{needs}
-use Rattle.hub_lister.specs.Promises.{Ran}
+use Rattle.hub_lister.specs.Promises.{linesSize, Ran}
 use Rattle.hub_lister.proofs.Theorems.{begins}
 use Rattle.hub_lister.proofs.stream.listen.Statement.{statement}
 use Rattle.hub_lister.proofs.stream.listen.Tie as tie
 
 abbrev Inv-loop : tie.InvT-loop
 Inv-loop line₀ gather₀ text₀ room₀ lister₀ reads₀ line gather text room lister reads =
-    Ran lister line gather × (length text ≡ length text₀) × (length room ≡ length room₀) × (12316 ≤ length room)
+    Ran lister line gather × (length text ≡ length text₀) × (length room ≡ length room₀) × (linesSize ≤ length room)
 
 abbrev μ-loop : tie.MeasureT-loop
 μ-loop line₀ gather₀ text₀ room₀ lister₀ reads₀ line gather text room lister reads = reads
