@@ -21,6 +21,9 @@ static void write_form(uint8_t form[COUNT])
     memcpy(form + COUNT - strlen(end), end, strlen(end));
 }
 
+// What the hub files. It does so before its answer goes out, as nothing here takes longer than the reader waits: a power
+// cut then loses nothing that the reader calls delivered. Where filing is slow, send the answer first and file behind it
+// (docs/PROTOCOL.md §15); hub.message keeps the message until the next one is whole.
 static void show(mk_hub_told told)
 {
     switch (told.number) {

@@ -9,12 +9,7 @@
 // You bring the serial port and the clock. What happens on the line goes in as events, one at a time: a byte, a
 // character gap (a silence that ends a packet) or a message gap (a longer one, at which a hub forgets all that came
 // before). What is to be sent stands in a buffer of yours, and a number says what happened: 0 for nothing, 1 to 13
-// for a refusal, 100 and above for all else.
-//
-// Keep silent for a character gap after all that you send, and for a message gap before a message that follows a
-// failed one or that begins with a packet equal to the one before it: if the first copy of such a packet were lost,
-// the hub would take its resend for one of the packet before. Two equal pieces in a row inside one message are open
-// to the same mistake.
+// for a refusal, 100 and above for all else. docs/PROTOCOL.md says what each of them means on the line.
 //
 // Most firmware needs only the last part of this file: the types mk_hub, mk_reader, mk_framer and mk_sender hold
 // all buffers, and short functions work on them. bindings/c/example.c is a whole program. To build from the root of
@@ -27,6 +22,31 @@
 // (crates/exports) to end and to read and write only what it is lent, whatever bytes stand there. Only this is left
 // to you, as C cannot say it: every pointer is valid for the length given with it, or for the number in its
 // brackets, and is not NULL, even for a length of 0; and the buffers that one call is lent do not overlap.
+//
+// Timing and duties (more in docs/PROTOCOL.md §15)
+//
+// Three silences are yours to measure, each shorter than the next: the character gap, the reader's response time-out
+// (parameter 9Bh) and the message gap.
+//
+// - The time-out runs from the last byte of a copy. It is longer than the hub's longest delay before an answer, the
+//   answer itself (up to MK_ANSWER_SIZE bytes of 10 bits, 11 with parity; 10 bits take 1.04 ms at 9,600 baud) and the
+//   character gap behind it. These are the floor: wait no less, even where 9Bh is 0.
+// - The message gap is longer than the longest silence that a hub hears inside a message: two time-outs, for two copies
+//   of a packet may be lost in a row, with these copies and the delays between them (docs/PROTOCOL.md §15 reckons it).
+//   One that came sooner would make the hub forget the packet, and file its resend as a second message. Who changes 9Bh
+//   keeps the message gap longer.
+// - An answer comes before its copy's time-out or not at all. A late ACK would count for the next packet, and the loss
+//   of that one go unseen. So a hub that is late sends nothing, and a reader drops all that it hears while it sends.
+// - At MK_MESSAGE the message is whole in its room, and its ACK is not yet sent. Send it, then do slow work. Where
+//   filing surely ends before the time-out, file first: then a power cut loses nothing that was called delivered.
+// - Both ends keep silent for a character gap after all that they send. A reader keeps silent for a message gap before
+//   its first message after power-up, and before one that follows a failed one or begins with a packet equal to the
+//   one before it: were the first copy of such a packet lost, the hub would take its resend for one of the packet
+//   before. Two equal pieces in a row inside one message are open to the same mistake.
+// - MK_DELIVERED: the hub has the message. MK_FAILED: it may have it all the same, and only its answers were lost.
+// - A reader's permanent values outlast power-off where you keep the bytes of its control value. Put them back, power
+//   up, and read every parameter: if one is outside its range, as in a memory that is blank (all FFh, or all 0),
+//   nothing was kept, and mk_reader_on is due. A hub keeps nothing.
 #ifndef MOTIKHUND_H
 #define MOTIKHUND_H
 
@@ -42,6 +62,8 @@ _Static_assert(sizeof(size_t) == 8, "the archive is for x86-64");
 #endif
 
 // ---- constants
+//
+// In Rust they have the same names without MK_ (motikhund::constants); the refusals are its enum Refusal.
 
 // Sizes in bytes. A call that is lent less gives MK_ROOM.
 enum {
@@ -52,7 +74,8 @@ enum {
     MK_PACKET_SIZE = 257,        // the longest packet with its checksum: building, a framer's line, a copy
     MK_LINE_SIZE = 514,          // the line of hub and reader: the packet that comes in, and the last accepted one
     MK_MESSAGE_SIZE = 4096,      // the longest message, its code type not counted
-    MK_ANSWER_SIZE = 7,          // the longest ACK or NAK, and so a hub's answer
+    MK_ANSWER_SIZE = 7,          // the longest ACK or NAK
+    MK_HUB_ANSWER_SIZE = 7,      // a hub's answer room
     MK_READER_ANSWER_SIZE = 25,  // a reader's longest answer: a PARAM_SEND with all nine parameters
     MK_DATA_SIZE = 251           // the most data in a packet
 };
@@ -71,8 +94,8 @@ enum {
     MK_HEARD_NOTHING = 258   // sender: nothing that it heeds; any number above means it too
 };
 
-// Refusals. Behind each, how hub and reader answer it on the line. A reader sends no NAK where parameter 9Fh is 0,
-// and none for 1 to 3 while a message is out.
+// Refusals (docs/PROTOCOL.md §6). Behind each, how hub and reader answer it on the line. A reader sends no NAK where
+// parameter 9Fh is 0, and none for 1 to 3 while a message is out.
 enum {
     MK_LENGTH = 1,    // a packet's length below 4; NAK 1
     MK_CHECKSUM = 2,  // wrong checksum; NAK 1
@@ -82,9 +105,9 @@ enum {
     MK_OPCODE = 6,    // an opcode unknown to this side; NAK 2
     MK_DATA = 7,      // a data length wrong for the opcode; NAK 2
     MK_BEEP = 8,      // a beep code that is not allowed; NAK 6
-    MK_PARAMETER = 9, // a parameter or value that is not allowed; NAK 6
+    MK_SETTING = 9,   // a parameter or value that is not allowed; NAK 6
     MK_BARRED = 10,   // hub: another type inside a message, or too long; then all decode data to a message gap; NAK 6
-    MK_SENDER = 11,   // sender: a message over 4,096 bytes, or one still out; no answer
+    MK_START = 11,    // sender: a message over 4,096 bytes, or one still out; no answer
     MK_ROOM = 13      // something is lent too small: nothing is changed, and the event is not taken; no answer
 };
 
@@ -142,30 +165,138 @@ enum {
     MK_OPCODE_DECODE_DATA = 0xF3     // a message's code type, then a piece of it
 };
 
-// The reader's parameters; behind each its lowest and highest value and the house default.
+// The reader's parameters (docs/PROTOCOL.md §12); behind each its values, or its lowest and highest one, and the house
+// default.
 enum {
-    MK_PARAMETER_POWER_MODE = 0x80,        // 0 to 1, 0
-    MK_PARAMETER_SAME_SYMBOL_TIME = 0x89,  // 0 to 99, 10
-    MK_PARAMETER_TRIGGER = 0x8A,           // 0, 2, 4, 7 or 8, 0
-    MK_PARAMETER_RESPONSE_TIME_OUT = 0x9B, // 0 to 99, 20
-    MK_PARAMETER_BAUD = 0x9C,              // 1 to 7, 6
-    MK_PARAMETER_PARITY = 0x9E,            // 0 to 4, 4
-    MK_PARAMETER_ACK_NAK = 0x9F,           // 0 to 1, 1; at 0 the reader sends no ACK and no NAK
-    MK_PARAMETER_AIM_DURATION = 0xED,      // 0 to 99, 0
-    MK_PARAMETER_PACKETED_DATA = 0xEE      // 0 to 1, 1
+    MK_PARAMETER_POWER_MODE = 0x80,        // MK_POWER_..; MK_POWER_CONTINUOUS
+    MK_PARAMETER_SAME_SYMBOL_TIME = 0x89,  // tenths of a second, 0 to 99; 10
+    MK_PARAMETER_TRIGGER = 0x8A,           // MK_TRIGGER_..; MK_TRIGGER_LEVEL
+    MK_PARAMETER_RESPONSE_TIME_OUT = 0x9B, // tenths of a second, 0 to 99; 20
+    MK_PARAMETER_BAUD = 0x9C,              // MK_BAUD_..; MK_BAUD_9600
+    MK_PARAMETER_PARITY = 0x9E,            // MK_PARITY_..; MK_PARITY_NONE
+    MK_PARAMETER_ACK_NAK = 0x9F,           // MK_ACK_NAK_..; MK_ACK_NAK_ON
+    MK_PARAMETER_AIM_DURATION = 0xED,      // tenths of a second, 0 (no aim pattern) to 99; 0
+    MK_PARAMETER_PACKETED_DATA = 0xEE      // MK_DATA_..; MK_DATA_PACKETED
+};
+
+// Values of 80h.
+enum {
+    MK_POWER_CONTINUOUS = 0, // always on
+    MK_POWER_LOW = 1
+};
+
+// Values of 8Ah.
+enum {
+    MK_TRIGGER_LEVEL = 0,
+    MK_TRIGGER_PULSE = 2,
+    MK_TRIGGER_CONTINUOUS = 4,
+    MK_TRIGGER_BLINKING = 7,
+    MK_TRIGGER_HOST = 8
+};
+
+// Values of 9Ch.
+enum {
+    MK_BAUD_300 = 1,
+    MK_BAUD_600 = 2,
+    MK_BAUD_1200 = 3,
+    MK_BAUD_2400 = 4,
+    MK_BAUD_4800 = 5,
+    MK_BAUD_9600 = 6,
+    MK_BAUD_19200 = 7
+};
+
+// Values of 9Eh.
+enum {
+    MK_PARITY_ODD = 0,
+    MK_PARITY_EVEN = 1,
+    MK_PARITY_MARK = 2,
+    MK_PARITY_SPACE = 3,
+    MK_PARITY_NONE = 4
+};
+
+// Values of 9Fh.
+enum {
+    MK_ACK_NAK_OFF = 0, // the reader sends no ACK and no NAK
+    MK_ACK_NAK_ON = 1
+};
+
+// Values of EEh. The library sends packets in either case; sending raw data is left to you.
+enum {
+    MK_DATA_RAW = 0,
+    MK_DATA_PACKETED = 1
+};
+
+// A beep's duration and pitch (docs/PROTOCOL.md §13).
+enum {
+    MK_DURATION_SHORT = 0,
+    MK_DURATION_LONG = 1,
+    MK_DURATION_FAST_WARBLE = 2,
+    MK_DURATION_SLOW_WARBLE = 3,
+    MK_DURATION_MIX_1 = 4,
+    MK_DURATION_MIX_2 = 5,
+    MK_DURATION_MIX_3 = 6,
+    MK_DURATION_MIX_4 = 7
+};
+enum {
+    MK_PITCH_HIGH = 0,
+    MK_PITCH_LOW = 1,
+    MK_PITCH_HIGH_LOW_HIGH_LOW = 2,
+    MK_PITCH_HIGH_LOW = 3,
+    MK_PITCH_LOW_HIGH = 4,
+    MK_PITCH_HIGH_LOW_HIGH = 5,
+    MK_PITCH_LOW_HIGH_LOW = 6,
+    MK_PITCH_HIGH_HIGH_LOW_LOW = 7
+};
+
+// Where each value stands that a call tells beside its number, and how many there are.
+// Of mk_check and mk_framer_hear, a packet's head:
+enum {
+    MK_HEAD_LENGTH = 0, // of the packet without its checksum, so of the data and 4 more
+    MK_HEAD_OPCODE = 1,
+    MK_HEAD_SOURCE = 2,
+    MK_HEAD_STATUS = 3,
+    MK_HEAD_VALUES = 4
+};
+// Of mk_hub_hear:
+enum {
+    MK_HUB_VALUE_ANSWER = 0, // so many bytes of the answer room are to be sent
+    MK_HUB_VALUE_CODE = 1,   // MK_MESSAGE: its code type
+    MK_HUB_VALUE_COUNT = 2,  // MK_MESSAGE: so many bytes of the message room
+    MK_HUB_VALUES = 3
+};
+// Of mk_reader_hear:
+enum {
+    MK_READER_VALUE_ANSWER = 0,     // so many bytes of the answer room are to be sent
+    MK_READER_VALUE_DURATION = 1,   // MK_ACTED: the beep's, MK_DURATION_..
+    MK_READER_VALUE_PITCH = 2,      // MK_ACTED: the beep's, MK_PITCH_..
+    MK_READER_VALUE_COUNT = 3,      // MK_ACTED: how many beeps; 0: none
+    MK_READER_VALUE_SENT = 4,       // the number that mk_sender_hear would tell of an ACK or NAK that came
+    MK_READER_VALUE_SENT_VALUE = 5, // and its value
+    MK_READER_VALUES = 6
+};
+// Of mk_reader_switches, each 1 or 0:
+enum {
+    MK_SWITCH_SCANNING = 0, // scanning is enabled
+    MK_SWITCH_SESSION = 1, // a session is on
+    MK_SWITCH_AIM = 2,     // the aim is on
+    MK_SWITCH_LED = 3,     // the LED is on
+    MK_SWITCH_VALUES = 4
 };
 
 // ---- the calls of the archive
 //
 // A control value is all that a machine remembers beside its buffers. It stands in bytes of yours, and any bytes
-// are one. Where a call asks for a size, more may be lent; bytes past what is written stay as they were. With
-// MK_ROOM nothing is changed, and the numbers told with it (head, size, value, values) are 0; they are 0 too where
-// a result has none.
+// are one. Where a call asks for a size, more may be lent; bytes past what is written stay as they were.
+//
+// With MK_ROOM and MK_START nothing is changed but the numbers told (head, size, value, values), which are 0; they are
+// 0 too where a result has none. With any other refusal of an event only its answer, the byte that came in the line,
+// and the control value are written: the packet begun has ended, MK_LENGTH and MK_CHECKSUM make deaf, MK_BARRED bars
+// the hub with nothing gathered, and all else in it stays as it was read.
 
-// Judges the front of some bytes. MK_PACKET, and the head: length, opcode, source, status. The data begin at
-// bytes[4] and have length - 4 bytes; the packet has length + 2 bytes, and those behind it are not read. Or MK_CUT
-// (too few bytes, or none), MK_LENGTH, MK_CHECKSUM.
-uint32_t mk_check(const uint8_t *bytes, size_t bytes_len, size_t head[4]);
+// Judges the front of some bytes. MK_PACKET, and the head. The data begin at bytes[4] and have length - 4 bytes; the
+// packet has length + 2 bytes, and those behind it are not read. Or MK_CUT (too few bytes, or none), MK_LENGTH,
+// MK_CHECKSUM.
+uint32_t mk_check(const uint8_t *bytes, size_t bytes_len, size_t head[MK_HEAD_VALUES]);
 
 // Builds a packet at the front of a room of MK_PACKET_SIZE. MK_WRITTEN and the packet's size. Or MK_ROOM; MK_SOURCE
 // (only 0 and 4 are sources); MK_STATUS; MK_DATA (over MK_DATA_SIZE bytes of data). Any opcode is taken.
@@ -183,24 +314,24 @@ uint32_t mk_framer_idle(uint8_t *control, size_t control_len);
 // front of the line buffer until the next event, with its head as of mk_check. MK_LENGTH and MK_CHECKSUM, at which
 // the framer ignores all up to the next gap; MK_CUT; MK_NOTHING; MK_ROOM.
 uint32_t mk_framer_hear(uint8_t *control, size_t control_len, uint8_t *line, size_t line_len, uint32_t event,
-    size_t head[4]);
+    size_t head[MK_HEAD_VALUES]);
 
 // Makes a hub's control value (MK_HUB_CONTROL_SIZE): just switched on. MK_NOTHING, or MK_ROOM.
 uint32_t mk_hub_on(uint8_t *control, size_t control_len);
 
-// One event at the hub. The answer room has MK_ANSWER_SIZE, the message room MK_MESSAGE_SIZE; line and gather are
+// One event at the hub. The answer room has MK_HUB_ANSWER_SIZE, the message room MK_MESSAGE_SIZE; line and gather are
 // the hub's own and only lent. MK_ADDED, MK_REPEATED, MK_MESSAGE, MK_NOTHING, a refusal from MK_LENGTH to MK_DATA,
-// MK_BARRED or MK_ROOM. The values: the size of the answer, which is to be sent; of a message also its code type
-// and its size. The message room is written at MK_MESSAGE only.
+// MK_BARRED or MK_ROOM; the values are MK_HUB_VALUE_... The message room is written at MK_MESSAGE only.
 uint32_t mk_hub_hear(uint8_t *control, size_t control_len, uint8_t line[MK_LINE_SIZE], uint8_t gather[MK_MESSAGE_SIZE],
-    uint8_t *answer, size_t answer_len, uint8_t *message, size_t message_len, uint32_t event, size_t values[3]);
+    uint8_t *answer, size_t answer_len, uint8_t *message, size_t message_len, uint32_t event,
+    size_t values[MK_HUB_VALUES]);
 
 // Makes a sender's control value (MK_SENDER_CONTROL_SIZE): nothing out; failed says whether the message before
 // failed, so that a message gap is due. MK_NOTHING, or MK_ROOM.
 uint32_t mk_sender_idle(uint8_t *control, size_t control_len, bool failed);
 
 // Starts a message, which is copied into the buffer. MK_COPY: the first packet stands in the room (MK_PACKET_SIZE),
-// value is its size. Or MK_ROOM, MK_SENDER.
+// value is its size. Or MK_ROOM, MK_START.
 uint32_t mk_sender_start(uint8_t *control, size_t control_len, uint8_t buffer[MK_MESSAGE_SIZE], uint8_t *room,
     size_t room_len, uint8_t code, const uint8_t *message, size_t message_len, size_t *value);
 
@@ -216,10 +347,12 @@ uint32_t mk_sender_waits(const uint8_t *control, size_t control_len);
 // What a sender hears of a packet with these fields and data, as mk_sender_hear takes it: 0 to MK_HEARD_NOTHING.
 uint32_t mk_sender_heed(uint8_t opcode, uint8_t source, uint8_t status, const uint8_t *data, size_t data_len);
 
-// Makes a reader's control value (MK_READER_CONTROL_SIZE): switched on, house defaults. MK_NOTHING, or MK_ROOM.
+// Makes a reader's control value (MK_READER_CONTROL_SIZE): switched on, house defaults. A message gap is due before the
+// first message. MK_NOTHING, or MK_ROOM.
 uint32_t mk_reader_on(uint8_t *control, size_t control_len);
 
-// Power-up: parameters get their permanent values, and all that came or was out is forgotten. MK_NOTHING or MK_ROOM.
+// Power-up: parameters get their permanent values, and all that came or was out is forgotten, also whether the message
+// before failed: so a message gap is due before the first message after it. MK_NOTHING, or MK_ROOM.
 uint32_t mk_reader_power_up(uint8_t *control, size_t control_len);
 
 // As mk_sender_start, by the reader's sender.
@@ -231,18 +364,17 @@ uint32_t mk_reader_time_out(uint8_t *control, size_t control_len, const uint8_t 
     size_t copy_len, size_t *value);
 
 // One event at the reader. The answer room has MK_READER_ANSWER_SIZE, the copy room MK_PACKET_SIZE; answers keeps
-// the last answer for a resend. MK_ACTED, MK_REPEATED, MK_NOTHING, a refusal from MK_LENGTH to MK_PARAMETER or
-// MK_ROOM. The values: the size of the answer, which is to be sent; the beep's duration, pitch and count (0, 0, 0:
-// none); what the sender made of an ACK or NAK, number and value as of mk_sender_hear.
+// the last answer for a resend. MK_ACTED, MK_REPEATED, MK_NOTHING, a refusal from MK_LENGTH to MK_SETTING or MK_ROOM;
+// the values are MK_READER_VALUE_...
 uint32_t mk_reader_hear(uint8_t *control, size_t control_len, uint8_t line[MK_LINE_SIZE],
     uint8_t answers[MK_READER_ANSWER_SIZE], const uint8_t message[MK_MESSAGE_SIZE], uint8_t *answer, size_t answer_len,
-    uint8_t *copy, size_t copy_len, uint32_t event, size_t values[6]);
+    uint8_t *copy, size_t copy_len, uint32_t event, size_t values[MK_READER_VALUES]);
 
 // The present value of a parameter, 0 where there is no such parameter. MK_NOTHING, or MK_ROOM.
 uint32_t mk_reader_value(const uint8_t *control, size_t control_len, uint8_t number, size_t *value);
 
-// What the commands have switched on, each 1 or 0: scanning, session, aim, LED. MK_NOTHING, or MK_ROOM.
-uint32_t mk_reader_switches(const uint8_t *control, size_t control_len, size_t values[4]);
+// What the commands have switched on; the values are MK_SWITCH_... MK_NOTHING, or MK_ROOM.
+uint32_t mk_reader_switches(const uint8_t *control, size_t control_len, size_t values[MK_SWITCH_VALUES]);
 
 // ---- machines with their buffers
 //
@@ -256,8 +388,8 @@ typedef struct {
     uint8_t control[MK_HUB_CONTROL_SIZE];
     uint8_t line[MK_LINE_SIZE];
     uint8_t gather[MK_MESSAGE_SIZE];
-    uint8_t answer[MK_ANSWER_SIZE];   // to be sent: so many bytes as told
-    uint8_t message[MK_MESSAGE_SIZE]; // the last message that was whole; stays until the next one is
+    uint8_t answer[MK_HUB_ANSWER_SIZE]; // to be sent: so many bytes as told
+    uint8_t message[MK_MESSAGE_SIZE];   // the last message that was whole; stays until the next one is
 } mk_hub;
 
 typedef struct {
@@ -274,13 +406,13 @@ static inline void mk_hub_init(mk_hub *hub)
 
 static inline mk_hub_told mk_hub_event(mk_hub *hub, uint32_t event)
 {
-    size_t values[3];
+    size_t values[MK_HUB_VALUES];
     mk_hub_told told;
     told.number = mk_hub_hear(hub->control, sizeof hub->control, hub->line, hub->gather, hub->answer,
         sizeof hub->answer, hub->message, sizeof hub->message, event, values);
-    told.answer = values[0];
-    told.code = (uint8_t)values[1];
-    told.count = values[2];
+    told.answer = values[MK_HUB_VALUE_ANSWER];
+    told.code = (uint8_t)values[MK_HUB_VALUE_CODE];
+    told.count = values[MK_HUB_VALUE_COUNT];
     return told;
 }
 
@@ -309,14 +441,14 @@ static inline void mk_framer_init(mk_framer *framer)
 
 static inline mk_framer_told mk_framer_event(mk_framer *framer, uint32_t event)
 {
-    size_t head[4];
+    size_t head[MK_HEAD_VALUES];
     mk_framer_told told;
     told.number =
         mk_framer_hear(framer->control, sizeof framer->control, framer->line, sizeof framer->line, event, head);
-    told.head.length = head[0];
-    told.head.opcode = (uint8_t)head[1];
-    told.head.source = (uint8_t)head[2];
-    told.head.status = (uint8_t)head[3];
+    told.head.length = head[MK_HEAD_LENGTH];
+    told.head.opcode = (uint8_t)head[MK_HEAD_OPCODE];
+    told.head.source = (uint8_t)head[MK_HEAD_SOURCE];
+    told.head.status = (uint8_t)head[MK_HEAD_STATUS];
     return told;
 }
 
@@ -329,7 +461,7 @@ typedef struct {
 
 // What a sender brought, alone or in a reader.
 typedef struct {
-    uint32_t number; // MK_COPY, MK_DELIVERED, MK_FAILED, MK_NOTHING or MK_SENDER
+    uint32_t number; // MK_COPY, MK_DELIVERED, MK_FAILED, MK_NOTHING or MK_START
     size_t value;    // MK_COPY: so many bytes are to be sent; MK_DELIVERED, MK_FAILED: the number of resends
 } mk_sent;
 
@@ -373,13 +505,10 @@ typedef struct {
 } mk_reader;
 
 // A sound to be made; with a count of 0 there is none.
-// Durations: 0 short, 1 long, 2 fast warble, 3 slow warble, 4 to 7 mix 1 to mix 4.
-// Pitches: 0 high, 1 low, 2 high-low-high-low, 3 high-low, 4 low-high, 5 high-low-high, 6 low-high-low,
-// 7 high-high-low-low.
 typedef struct {
-    uint8_t duration;
-    uint8_t pitch;
-    uint8_t count;
+    uint8_t duration; // MK_DURATION_..
+    uint8_t pitch;    // MK_PITCH_..
+    uint8_t count;    // how many beeps
 } mk_beep;
 
 typedef struct {
@@ -397,13 +526,14 @@ typedef struct {
     bool led;
 } mk_switches;
 
-// The house defaults, nothing out.
+// The house defaults, nothing out. A message gap is due before the first message.
 static inline void mk_reader_init(mk_reader *reader)
 {
     mk_reader_on(reader->control, sizeof reader->control);
 }
 
-// Power-up: the permanent values of the parameters come back, all else is as new.
+// Power-up: the permanent values of the parameters come back, all else is as new. A message gap is due before the first
+// message after it.
 static inline void mk_reader_restart(mk_reader *reader)
 {
     mk_reader_power_up(reader->control, sizeof reader->control);
@@ -411,16 +541,16 @@ static inline void mk_reader_restart(mk_reader *reader)
 
 static inline mk_reader_told mk_reader_event(mk_reader *reader, uint32_t event)
 {
-    size_t values[6];
+    size_t values[MK_READER_VALUES];
     mk_reader_told told;
     told.number = mk_reader_hear(reader->control, sizeof reader->control, reader->line, reader->answers,
         reader->message, reader->answer, sizeof reader->answer, reader->copy, sizeof reader->copy, event, values);
-    told.answer = values[0];
-    told.beep.duration = (uint8_t)values[1];
-    told.beep.pitch = (uint8_t)values[2];
-    told.beep.count = (uint8_t)values[3];
-    told.sent.number = (uint32_t)values[4];
-    told.sent.value = values[5];
+    told.answer = values[MK_READER_VALUE_ANSWER];
+    told.beep.duration = (uint8_t)values[MK_READER_VALUE_DURATION];
+    told.beep.pitch = (uint8_t)values[MK_READER_VALUE_PITCH];
+    told.beep.count = (uint8_t)values[MK_READER_VALUE_COUNT];
+    told.sent.number = (uint32_t)values[MK_READER_VALUE_SENT];
+    told.sent.value = values[MK_READER_VALUE_SENT_VALUE];
     return told;
 }
 
@@ -453,13 +583,13 @@ static inline uint8_t mk_reader_parameter(const mk_reader *reader, uint8_t numbe
 
 static inline mk_switches mk_reader_switched(const mk_reader *reader)
 {
-    size_t values[4];
+    size_t values[MK_SWITCH_VALUES];
     mk_switches on;
     mk_reader_switches(reader->control, sizeof reader->control, values);
-    on.scanning = values[0] == 1;
-    on.session = values[1] == 1;
-    on.aim = values[2] == 1;
-    on.led = values[3] == 1;
+    on.scanning = values[MK_SWITCH_SCANNING] == 1;
+    on.session = values[MK_SWITCH_SESSION] == 1;
+    on.aim = values[MK_SWITCH_AIM] == 1;
+    on.led = values[MK_SWITCH_LED] == 1;
     return on;
 }
 

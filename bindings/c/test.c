@@ -1,463 +1,6 @@
-// Tests of the archive through motikhund.h: every room too small, garbage, every refusal, the cases of document 01, the
-// story of sample 8 (give it examples/88.txt). All that is random is seeded.
-#include <ctype.h>
-#include <stdio.h>
-#include <stdlib.h>
-#include <string.h>
-
-#include "motikhund.h"
-
-#define COUNT(array) (sizeof(array) / sizeof *(array))
-
-// ---- checks
-
-static const char *testing;
-static unsigned long checks, failures;
-
-static void check(bool holds, const char *text, const char *file, int line)
-{
-    checks++;
-    if (holds)
-        return;
-    failures++;
-    if (failures <= 20)
-        fprintf(stderr, "%s:%d: %s: not so: %s\n", file, line, testing, text);
-}
-
-#define CHECK(truth) check((truth), #truth, __FILE__, __LINE__)
-
-static void stop(const char *why)
-{
-    fprintf(stderr, "%s\n", why);
-    exit(1);
-}
-
-// ---- the generator
-
-static uint64_t seed = 88;
-
-static uint64_t draw(void)
-{
-    seed ^= seed << 13;
-    seed ^= seed >> 7;
-    seed ^= seed << 17;
-    return seed * 0x2545F4914F6CDD1D;
-}
-
-static size_t below(size_t limit)
-{
-    return (size_t)(draw() >> 32) % limit;
-}
-
-static uint8_t any_byte(void)
-{
-    return (uint8_t)below(256);
-}
-
-static uint8_t pick(const uint8_t *from, size_t count)
-{
-    return from[below(count)];
-}
-
-// ---- what is lent: buffers on one ground, with guards between them
-
-enum { GROUND = 1 << 16, GUARD = 64, LENT = 24 };
-
-static _Alignas(size_t) uint8_t ground[GROUND];
-static uint8_t before[GROUND]; // the ground as it was
-static struct {
-    size_t from, to;
-} lent[LENT];
-static size_t lents;
-
-static size_t ground_end(void)
-{
-    return (lents == 0 ? 0 : lent[lents - 1].to) + GUARD;
-}
-
-static void *lend(size_t size)
-{
-    size_t from = (ground_end() + 7) / 8 * 8;
-    if (lents == LENT || from + size + 2 * GUARD > GROUND)
-        stop("the ground is too small");
-    lent[lents].from = from;
-    lent[lents].to = from + size;
-    lents++;
-    return ground + from;
-}
-
-// From here on the ground is compared with what it is now.
-static void remember(void)
-{
-    memcpy(before, ground, ground_end());
-}
-
-static void fill_ground(void)
-{
-    for (size_t i = 0; i < ground_end(); i += sizeof seed) {
-        uint64_t bytes = draw();
-        memcpy(ground + i, &bytes, sizeof bytes);
-    }
-    remember();
-}
-
-static bool guards_stand(void)
-{
-    size_t at = 0;
-    for (size_t i = 0; i < lents; i++) {
-        if (memcmp(ground + at, before + at, lent[i].from - at) != 0)
-            return false;
-        at = lent[i].to;
-    }
-    return memcmp(ground + at, before + at, GUARD) == 0;
-}
-
-// What stood where a lent buffer is.
-static uint8_t *was(const void *buffer)
-{
-    return before + ((const uint8_t *)buffer - ground);
-}
-
-// A lent buffer is as it was behind its first bytes, which are no more than it has.
-static bool stays(const uint8_t *buffer, size_t written, size_t size)
-{
-    return written <= size && memcmp(buffer + written, was(buffer) + written, size - written) == 0;
-}
-
-static bool nothing_changed(void)
-{
-    return memcmp(ground, before, ground_end()) == 0;
-}
-
-// ---- bytes and events in text: two hex digits a byte, `.` a character gap, `/` a message gap
-
-enum { EVENTS = 1024 };
-
-static size_t read_events(const char *text, uint32_t events[EVENTS])
-{
-    size_t count = 0;
-    for (; *text != 0 && count < EVENTS; text++) {
-        unsigned value;
-        if (*text == '.') {
-            events[count++] = MK_CHARACTER_GAP;
-        } else if (*text == '/') {
-            events[count++] = MK_MESSAGE_GAP;
-        } else if (isxdigit((unsigned char)*text) && sscanf(text++, "%2x", &value) == 1) {
-            events[count++] = value;
-        }
-    }
-    return count;
-}
-
-static size_t read_bytes(const char *text, uint8_t bytes[EVENTS])
-{
-    uint32_t events[EVENTS];
-    size_t count = read_events(text, events);
-    for (size_t i = 0; i < count; i++)
-        bytes[i] = (uint8_t)events[i];
-    return count;
-}
-
-static bool reads(const uint8_t *bytes, size_t size, const char *text)
-{
-    uint8_t wanted[EVENTS];
-    return size == read_bytes(text, wanted) && memcmp(bytes, wanted, size) == 0;
-}
-
-// ---- packets made here, not by the archive
-
-static size_t seal(uint8_t *packet)
-{
-    size_t length = packet[0], checksum = 65536;
-    for (size_t i = 0; i < length; i++)
-        checksum -= packet[i];
-    packet[length] = (uint8_t)(checksum >> 8);
-    packet[length + 1] = (uint8_t)checksum;
-    return length + 2;
-}
-
-static size_t make_packet(
-    uint8_t *packet, uint8_t opcode, uint8_t source, uint8_t status, const uint8_t *data, size_t count)
-{
-    packet[0] = (uint8_t)(4 + count);
-    packet[1] = opcode;
-    packet[2] = source;
-    packet[3] = status;
-    memcpy(packet + 4, data, count);
-    return seal(packet);
-}
-
-// ---- under test: buffers for the archive's calls, and the machines
-
-static struct {
-    uint8_t *framer, *hub, *sender, *reader; // control values
-    uint8_t *packet, *line, *gather, *message, *answer, *answers, *reader_answer, *bytes;
-    size_t *values;
-} room;
-static mk_framer *framer;
-static mk_hub *hub;
-static mk_sender *sender;
-static mk_reader *reader;
-static uint8_t message[MK_MESSAGE_SIZE + 1];
-
-static void lay_ground(void)
-{
-    room.framer = lend(MK_FRAMER_CONTROL_SIZE);
-    room.hub = lend(MK_HUB_CONTROL_SIZE);
-    room.sender = lend(MK_SENDER_CONTROL_SIZE);
-    room.reader = lend(MK_READER_CONTROL_SIZE);
-    room.packet = lend(MK_PACKET_SIZE);
-    room.line = lend(MK_LINE_SIZE);
-    room.gather = lend(MK_MESSAGE_SIZE);
-    room.message = lend(MK_MESSAGE_SIZE);
-    room.answer = lend(MK_ANSWER_SIZE);
-    room.answers = lend(MK_READER_ANSWER_SIZE);
-    room.reader_answer = lend(MK_READER_ANSWER_SIZE);
-    room.bytes = lend(sizeof message);
-    room.values = lend(6 * sizeof *room.values);
-    framer = lend(sizeof *framer);
-    hub = lend(sizeof *hub);
-    sender = lend(sizeof *sender);
-    reader = lend(sizeof *reader);
-}
-
-static void fresh_machines(void)
-{
-    fill_ground();
-    mk_framer_init(framer);
-    mk_hub_init(hub);
-    mk_sender_init(sender);
-    mk_reader_init(reader);
-    memcpy(message, room.bytes, sizeof message);
-}
-
-// What the last event brings; those before it bring nothing.
-static mk_hub_told hub_takes(const char *text)
-{
-    uint32_t events[EVENTS];
-    size_t count = read_events(text, events);
-    mk_hub_told told = {MK_NOTHING, 0, 0, 0};
-    for (size_t i = 0; i < count; i++) {
-        CHECK(told.number == MK_NOTHING && told.answer == 0);
-        told = mk_hub_event(hub, events[i]);
-    }
-    return told;
-}
-
-static mk_reader_told reader_takes(const char *text)
-{
-    uint32_t events[EVENTS];
-    size_t count = read_events(text, events);
-    mk_reader_told told = {MK_NOTHING, 0, {0, 0, 0}, {MK_NOTHING, 0}};
-    for (size_t i = 0; i < count; i++) {
-        CHECK(told.number == MK_NOTHING && told.answer == 0 && told.sent.number == MK_NOTHING);
-        told = mk_reader_event(reader, events[i]);
-    }
-    return told;
-}
-
-// What a packet brings at its last byte; its other bytes and the gap behind it bring nothing.
-static mk_hub_told hub_gets(const uint8_t *packet, size_t size)
-{
-    mk_hub_told told = {MK_NOTHING, 0, 0, 0};
-    CHECK(size <= MK_PACKET_SIZE);
-    for (size_t i = 0; i < size && i < MK_PACKET_SIZE; i++) {
-        CHECK(told.number == MK_NOTHING && told.answer == 0);
-        told = mk_hub_event(hub, packet[i]);
-    }
-    CHECK(mk_hub_event(hub, MK_CHARACTER_GAP).number == MK_NOTHING);
-    return told;
-}
-
-static mk_reader_told reader_gets(const uint8_t *packet, size_t size)
-{
-    mk_reader_told told = {MK_NOTHING, 0, {0, 0, 0}, {MK_NOTHING, 0}};
-    CHECK(size <= MK_PACKET_SIZE);
-    for (size_t i = 0; i < size && i < MK_PACKET_SIZE; i++) {
-        CHECK(told.number == MK_NOTHING && told.answer == 0 && told.sent.number == MK_NOTHING);
-        told = mk_reader_event(reader, packet[i]);
-    }
-    CHECK(mk_reader_event(reader, MK_CHARACTER_GAP).number == MK_NOTHING);
-    return told;
-}
-
-static mk_reader_told command(uint8_t opcode, uint8_t status, const uint8_t *data, size_t count)
-{
-    uint8_t packet[MK_PACKET_SIZE];
-    return reader_gets(packet, make_packet(packet, opcode, MK_SOURCE_HOST, status, data, count));
-}
-
-#define HUB_ACK "04 D0 04 00 FF 28"
-#define HUB_NAK_1 "05 D1 04 00 01 FF 25"
-#define HUB_NAK_2 "05 D1 04 00 02 FF 24"
-#define HUB_NAK_6 "05 D1 04 00 06 FF 20"
-#define READER_ACK "04 D0 00 00 FF 2C"
-#define READER_NAK_1 "05 D1 00 00 01 FF 29"
-#define READER_NAK_2 "05 D1 00 00 02 FF 28"
-#define READER_NAK_6 "05 D1 00 00 06 FF 24"
-#define PIECE "06 F3 00 00 1B 38 FE B4"
-#define MARKED_PIECE "06 F3 00 01 1B 38 FE B3"
-#define EMPTY_PIECE "05 F3 00 00 1B FE ED"
-
-static bool hub_said(mk_hub_told told, uint32_t number, const char *answer)
-{
-    return told.number == number && reads(hub->answer, told.answer, answer);
-}
-
-static bool reader_said(mk_reader_told told, uint32_t number, const char *answer)
-{
-    return told.number == number && reads(reader->answer, told.answer, answer);
-}
-
-static bool is_sent(mk_sent sent, uint32_t number, size_t value)
-{
-    return sent.number == number && sent.value == value;
-}
-
-// ---- rooms: whatever is lent too small is MK_ROOM, and not a byte changes
-
-static uint32_t room_event;
-
-static uint32_t build_in(const size_t *size)
-{
-    return mk_build(room.packet, size[0], MK_OPCODE_BEEP, MK_SOURCE_HOST, 0, room.bytes, 1, room.values);
-}
-
-static uint32_t answer_in(const size_t *size)
-{
-    return mk_answer(room.answer, size[0], MK_SOURCE_HOST, room_event, room.values);
-}
-
-static uint32_t framer_idle_in(const size_t *size)
-{
-    return mk_framer_idle(room.framer, size[0]);
-}
-
-static uint32_t framer_hear_in(const size_t *size)
-{
-    return mk_framer_hear(room.framer, size[0], room.packet, size[1], room_event, room.values);
-}
-
-static uint32_t hub_on_in(const size_t *size)
-{
-    return mk_hub_on(room.hub, size[0]);
-}
-
-static uint32_t hub_hear_in(const size_t *size)
-{
-    return mk_hub_hear(room.hub, size[0], room.line, room.gather, room.answer, size[1], room.message, size[2],
-        room_event, room.values);
-}
-
-static uint32_t sender_idle_in(const size_t *size)
-{
-    return mk_sender_idle(room.sender, size[0], true);
-}
-
-static uint32_t sender_start_in(const size_t *size)
-{
-    return mk_sender_start(room.sender, size[0], room.message, room.packet, size[1], 0x1B, room.bytes, 1, room.values);
-}
-
-static uint32_t sender_hear_in(const size_t *size)
-{
-    return mk_sender_hear(room.sender, size[0], room.message, room.packet, size[1], room_event, room.values);
-}
-
-static uint32_t sender_waits_in(const size_t *size)
-{
-    return mk_sender_waits(room.sender, size[0]);
-}
-
-static uint32_t reader_on_in(const size_t *size)
-{
-    return mk_reader_on(room.reader, size[0]);
-}
-
-static uint32_t reader_power_up_in(const size_t *size)
-{
-    return mk_reader_power_up(room.reader, size[0]);
-}
-
-static uint32_t reader_start_in(const size_t *size)
-{
-    return mk_reader_start(room.reader, size[0], room.message, room.packet, size[1], 0x1B, room.bytes, 1, room.values);
-}
-
-static uint32_t reader_time_out_in(const size_t *size)
-{
-    return mk_reader_time_out(room.reader, size[0], room.message, room.packet, size[1], room.values);
-}
-
-static uint32_t reader_hear_in(const size_t *size)
-{
-    return mk_reader_hear(room.reader, size[0], room.line, room.answers, room.message, room.reader_answer, size[1],
-        room.packet, size[2], room_event, room.values);
-}
-
-static uint32_t reader_value_in(const size_t *size)
-{
-    return mk_reader_value(room.reader, size[0], MK_PARAMETER_BAUD, room.values);
-}
-
-static uint32_t reader_switches_in(const size_t *size)
-{
-    return mk_reader_switches(room.reader, size[0], room.values);
-}
-
-// A call, the sizes that it asks for, and how many numbers it tells.
-typedef struct {
-    const char *name;
-    uint32_t (*call)(const size_t *size);
-    size_t need[3];
-    size_t values;
-} asking;
-
-static const asking askings[] = {
-    {"mk_build", build_in, {MK_PACKET_SIZE, 0, 0}, 1},
-    {"mk_answer", answer_in, {MK_ANSWER_SIZE, 0, 0}, 1},
-    {"mk_framer_idle", framer_idle_in, {MK_FRAMER_CONTROL_SIZE, 0, 0}, 0},
-    {"mk_framer_hear", framer_hear_in, {MK_FRAMER_CONTROL_SIZE, MK_PACKET_SIZE, 0}, 4},
-    {"mk_hub_on", hub_on_in, {MK_HUB_CONTROL_SIZE, 0, 0}, 0},
-    {"mk_hub_hear", hub_hear_in, {MK_HUB_CONTROL_SIZE, MK_ANSWER_SIZE, MK_MESSAGE_SIZE}, 3},
-    {"mk_sender_idle", sender_idle_in, {MK_SENDER_CONTROL_SIZE, 0, 0}, 0},
-    {"mk_sender_start", sender_start_in, {MK_SENDER_CONTROL_SIZE, MK_PACKET_SIZE, 0}, 1},
-    {"mk_sender_hear", sender_hear_in, {MK_SENDER_CONTROL_SIZE, MK_PACKET_SIZE, 0}, 1},
-    {"mk_sender_waits", sender_waits_in, {MK_SENDER_CONTROL_SIZE, 0, 0}, 0},
-    {"mk_reader_on", reader_on_in, {MK_READER_CONTROL_SIZE, 0, 0}, 0},
-    {"mk_reader_power_up", reader_power_up_in, {MK_READER_CONTROL_SIZE, 0, 0}, 0},
-    {"mk_reader_start", reader_start_in, {MK_READER_CONTROL_SIZE, MK_PACKET_SIZE, 0}, 1},
-    {"mk_reader_time_out", reader_time_out_in, {MK_READER_CONTROL_SIZE, MK_PACKET_SIZE, 0}, 1},
-    {"mk_reader_hear", reader_hear_in, {MK_READER_CONTROL_SIZE, MK_READER_ANSWER_SIZE, MK_PACKET_SIZE}, 6},
-    {"mk_reader_value", reader_value_in, {MK_READER_CONTROL_SIZE, 0, 0}, 1},
-    {"mk_reader_switches", reader_switches_in, {MK_READER_CONTROL_SIZE, 0, 0}, 4},
-};
-
-static void room_refused(const asking *asked, size_t which, size_t size)
-{
-    size_t sizes[3], pattern[6];
-    memcpy(sizes, asked->need, sizeof sizes);
-    memcpy(pattern, room.values, sizeof pattern);
-    sizes[which] = size;
-    room_event = (uint32_t)below(258);
-    CHECK(asked->call(sizes) == MK_ROOM);
-    for (size_t i = 0; i < asked->values; i++)
-        CHECK(room.values[i] == 0);
-    memcpy(room.values, pattern, asked->values * sizeof *pattern);
-    CHECK(nothing_changed());
-}
-
-static void test_rooms(void)
-{
-    for (size_t i = 0; i < COUNT(askings); i++) {
-        testing = askings[i].name;
-        fill_ground();
-        for (size_t which = 0; which < 3; which++)
-            for (size_t size = 0; size < askings[i].need[which]; size++)
-                room_refused(&askings[i], which, size);
-        CHECK(askings[i].call(askings[i].need) != MK_ROOM);
-    }
-}
+// Tests of the archive through motikhund.h: garbage, small cases worked by hand, both ends with the story of sample 8
+// (give it examples/88.txt), the reader's commands. All that is random is seeded. What is refused is in refused.c.
+#include "ground.h"
 
 // ---- garbage: random control values and buffers, then random events. Each machine runs twice, by its calls with
 // guards around every buffer, and as its type by the short functions: both are to do the same.
@@ -604,6 +147,12 @@ static uint32_t next_event(chatter *talk)
     return talk->packet[0];
 }
 
+static bool is_head(const size_t *head, size_t length, uint8_t opcode, uint8_t source, uint8_t status)
+{
+    return head[MK_HEAD_LENGTH] == length && head[MK_HEAD_OPCODE] == opcode && head[MK_HEAD_SOURCE] == source
+        && head[MK_HEAD_STATUS] == status;
+}
+
 // The packet's calls, against packets made here.
 static void garbage_build(sights *checked, sights *built, uint8_t opcode, uint8_t source, uint8_t status)
 {
@@ -619,8 +168,7 @@ static void garbage_build(sights *checked, sights *built, uint8_t opcode, uint8_
     CHECK(size == make_packet(made, opcode, source, status, room.bytes, count) && memcmp(room.packet, made, size) == 0);
     number = mk_check(room.packet, MK_PACKET_SIZE, room.values);
     see(checked, number);
-    CHECK(number == MK_PACKET && room.values[0] == count + 4 && room.values[1] == opcode);
-    CHECK(room.values[2] == source && room.values[3] == status);
+    CHECK(number == MK_PACKET && is_head(room.values, count + 4, opcode, source, status));
 }
 
 static void garbage_check(sights *checked)
@@ -628,7 +176,8 @@ static void garbage_check(sights *checked)
     size_t count = below(8) == 0 ? 0 : below(MK_PACKET_SIZE);
     uint32_t number = mk_check(room.bytes, count, room.values);
     see(checked, number);
-    CHECK((number == MK_PACKET) == (room.values[0] > 0) && (number != MK_PACKET || room.values[0] + 2 <= count));
+    size_t length = room.values[MK_HEAD_LENGTH];
+    CHECK((number == MK_PACKET) == (length > 0) && (number != MK_PACKET || length + 2 <= count));
 }
 
 static void garbage_answer(sights *answered, uint8_t source)
@@ -685,9 +234,10 @@ static void garbage_framer(sights *told, chatter *talk)
         mk_framer_hear(room.framer, MK_FRAMER_CONTROL_SIZE, room.packet, MK_PACKET_SIZE, event, room.values);
     mk_framer_told other = mk_framer_event(framer, event);
     see(told, number);
-    CHECK(other.number == number && other.head.length == room.values[0] && other.head.opcode == room.values[1]);
-    CHECK(other.head.source == room.values[2] && other.head.status == room.values[3]);
-    CHECK(number == MK_PACKET ? room.values[0] >= 4 && room.values[0] <= 255 : room.values[0] == 0);
+    size_t length = room.values[MK_HEAD_LENGTH];
+    CHECK(other.number == number);
+    CHECK(is_head(room.values, other.head.length, other.head.opcode, other.head.source, other.head.status));
+    CHECK(number == MK_PACKET ? length >= 4 && length <= 255 : length == 0);
     CHECK(guards_stand());
 }
 
@@ -714,15 +264,16 @@ static void garbage_hub(sights *told, chatter *talk)
 {
     uint32_t event = next_event(talk);
     remember();
-    uint32_t number = mk_hub_hear(room.hub, MK_HUB_CONTROL_SIZE, room.line, room.gather, room.answer, MK_ANSWER_SIZE,
-        room.message, MK_MESSAGE_SIZE, event, room.values);
+    uint32_t number = mk_hub_hear(room.hub, MK_HUB_CONTROL_SIZE, room.line, room.gather, room.hub_answer,
+        MK_HUB_ANSWER_SIZE, room.message, MK_MESSAGE_SIZE, event, room.values);
     mk_hub_told other = mk_hub_event(hub, event);
+    size_t answer = room.values[MK_HUB_VALUE_ANSWER], code = room.values[MK_HUB_VALUE_CODE],
+           count = room.values[MK_HUB_VALUE_COUNT];
     see(told, number);
-    CHECK(other.number == number && other.answer == room.values[0]);
-    CHECK(other.code == room.values[1] && other.count == room.values[2]);
-    CHECK(stays(room.answer, room.values[0], MK_ANSWER_SIZE) && stays(room.message, room.values[2], MK_MESSAGE_SIZE));
-    CHECK(number == MK_MESSAGE || (room.values[1] == 0 && room.values[2] == 0));
-    CHECK((number == MK_NOTHING) == (room.values[0] == 0));
+    CHECK(other.number == number && other.answer == answer && other.code == code && other.count == count);
+    CHECK(stays(room.hub_answer, answer, MK_HUB_ANSWER_SIZE) && stays(room.message, count, MK_MESSAGE_SIZE));
+    CHECK(number == MK_MESSAGE || (code == 0 && count == 0));
+    CHECK((number == MK_NOTHING) == (answer == 0));
     CHECK(guards_stand());
 }
 
@@ -733,7 +284,7 @@ static void test_garbage_hub(void)
         {room.hub, hub->control, sizeof hub->control},
         {room.line, hub->line, sizeof hub->line},
         {room.gather, hub->gather, sizeof hub->gather},
-        {room.answer, hub->answer, sizeof hub->answer},
+        {room.hub_answer, hub->answer, sizeof hub->answer},
         {room.message, hub->message, sizeof hub->message},
     };
     for (int i = 0; i < ROUNDS; i++) {
@@ -759,7 +310,7 @@ static void garbage_sent(sights *told, uint32_t number, mk_sent other, size_t st
     CHECK(stays(room.message, number == MK_COPY ? started : 0, MK_MESSAGE_SIZE));
     CHECK(number != MK_COPY || value >= 7);
     CHECK((number != MK_DELIVERED && number != MK_FAILED) || value <= MOST_RESENDS);
-    CHECK((number != MK_NOTHING && number != MK_SENDER) || value == 0);
+    CHECK((number != MK_NOTHING && number != MK_START) || value == 0);
 }
 
 static size_t any_count(void)
@@ -813,23 +364,26 @@ static void test_garbage_sender(void)
             CHECK(are_twins(twins, COUNT(twins)));
         }
     }
-    saw(&told, (const uint8_t[]){MK_NOTHING, MK_SENDER, MK_COPY, MK_DELIVERED, MK_FAILED, MK_OUT}, 6);
+    saw(&told, (const uint8_t[]){MK_NOTHING, MK_START, MK_COPY, MK_DELIVERED, MK_FAILED, MK_OUT}, 6);
 }
 
 static void garbage_reader_event(sights *told, sights *sent, uint32_t event)
 {
-    const size_t *values = room.values;
     remember();
     uint32_t number = mk_reader_hear(room.reader, MK_READER_CONTROL_SIZE, room.line, room.answers, room.message,
         room.reader_answer, MK_READER_ANSWER_SIZE, room.packet, MK_PACKET_SIZE, event, room.values);
     mk_reader_told other = mk_reader_event(reader, event);
+    size_t answer = room.values[MK_READER_VALUE_ANSWER], duration = room.values[MK_READER_VALUE_DURATION],
+           pitch = room.values[MK_READER_VALUE_PITCH], count = room.values[MK_READER_VALUE_COUNT];
     see(told, number);
-    CHECK(other.number == number && other.answer == values[0]);
-    CHECK(other.beep.duration == values[1] && other.beep.pitch == values[2] && other.beep.count == values[3]);
-    CHECK(values[1] <= 7 && values[2] <= 7 && values[3] <= 5 && (number == MK_ACTED || values[3] == 0));
-    CHECK(stays(room.reader_answer, values[0], MK_READER_ANSWER_SIZE));
-    room.values[0] = values[5];
-    garbage_sent(sent, (uint32_t)values[4], other.sent, 0);
+    CHECK(other.number == number && other.answer == answer);
+    CHECK(other.beep.duration == duration && other.beep.pitch == pitch && other.beep.count == count);
+    CHECK(duration <= MK_DURATION_MIX_4 && pitch <= MK_PITCH_HIGH_HIGH_LOW_LOW && count <= 5);
+    CHECK(number == MK_ACTED || count == 0);
+    CHECK(stays(room.reader_answer, answer, MK_READER_ANSWER_SIZE));
+    uint32_t brought = (uint32_t)room.values[MK_READER_VALUE_SENT];
+    room.values[0] = room.values[MK_READER_VALUE_SENT_VALUE];
+    garbage_sent(sent, brought, other.sent, 0);
 }
 
 static void garbage_reader(sights *told, sights *sent, chatter *talk)
@@ -877,8 +431,8 @@ static void test_garbage_reader(void)
         }
     }
     saw(&told, (const uint8_t[]){MK_NOTHING, MK_LENGTH, MK_CHECKSUM, MK_CUT, MK_SOURCE, MK_STATUS, MK_OPCODE, MK_DATA,
-        MK_BEEP, MK_PARAMETER, MK_REPEATED, MK_ACTED}, 12);
-    saw(&sent, (const uint8_t[]){MK_NOTHING, MK_SENDER, MK_COPY, MK_DELIVERED, MK_FAILED}, 5);
+        MK_BEEP, MK_SETTING, MK_REPEATED, MK_ACTED}, 12);
+    saw(&sent, (const uint8_t[]){MK_NOTHING, MK_START, MK_COPY, MK_DELIVERED, MK_FAILED}, 5);
 }
 
 // Each init makes the control value that its call makes, and touches nothing else.
@@ -915,117 +469,7 @@ static void test_never_initialised(void)
     }
 }
 
-// ---- the refusals by name, and what each sends
-
-typedef struct {
-    uint32_t number;
-    const char *events;
-    const char *answer;
-} refusal;
-
-static const refusal hub_refusals[] = {
-    {MK_LENGTH, "03", HUB_NAK_1},
-    {MK_CHECKSUM, "06 F3 00 00 1B 38 FE B5", HUB_NAK_1},
-    {MK_CUT, "06 F3 00 00 1B 38 FE .", HUB_NAK_1},
-    {MK_CUT, "04 /", HUB_NAK_1},
-    {MK_SOURCE, "05 F3 04 00 1B FE E9", HUB_NAK_2},
-    {MK_STATUS, "05 F3 00 04 1B FE E9", HUB_NAK_2},
-    {MK_OPCODE, "05 E6 00 00 01 FF 14", HUB_NAK_2},
-    {MK_DATA, "04 F3 00 00 FF 09", HUB_NAK_2},
-};
-
-static const refusal reader_refusals[] = {
-    {MK_LENGTH, "00", READER_NAK_1},
-    {MK_CHECKSUM, "05 E6 04 00 01 FF 11", READER_NAK_1},
-    {MK_CUT, "05 E6 04 00 01 FF .", READER_NAK_1},
-    {MK_SOURCE, "05 E6 00 00 01 FF 14", READER_NAK_2},
-    {MK_STATUS, "05 E6 04 02 01 FF 0E", READER_NAK_2},
-    {MK_OPCODE, "05 F3 04 00 1B FE E9", READER_NAK_2},
-    {MK_DATA, "06 C6 04 00 FF 8A FD A7", READER_NAK_2},
-    {MK_DATA, "04 C7 04 00 FF 31", READER_NAK_2},
-    {MK_BEEP, "05 E6 04 00 1B FE F6", READER_NAK_6},
-    {MK_BEEP, "07 C6 04 00 1B 8A 08 FE 82", READER_NAK_6},
-    {MK_PARAMETER, "07 C6 04 00 FF 8A 01 FD A5", READER_NAK_6},
-};
-
-static void test_hub_refusals(void)
-{
-    for (size_t i = 0; i < COUNT(hub_refusals); i++) {
-        const refusal *due = &hub_refusals[i];
-        fresh_machines();
-        CHECK(hub_said(hub_takes(due->events), due->number, due->answer));
-        CHECK(stays(hub->message, 0, sizeof hub->message) && guards_stand());
-    }
-}
-
-static void test_reader_refusals(void)
-{
-    for (size_t i = 0; i < COUNT(reader_refusals); i++) {
-        const refusal *due = &reader_refusals[i];
-        fresh_machines();
-        CHECK(reader_said(reader_takes(due->events), due->number, due->answer));
-        CHECK(stays(reader->copy, 0, sizeof reader->copy) && guards_stand());
-    }
-}
-
-// A reader that waits for an answer sends nothing for 1 to 3.
-static void test_waiting_reader(void)
-{
-    mk_reader_send(reader, 0x1B, message, 1);
-    for (size_t i = 0; i < 3; i++) {
-        CHECK(reader_said(reader_takes(reader_refusals[i].events), reader_refusals[i].number, ""));
-        mk_reader_event(reader, MK_CHARACTER_GAP);
-    }
-    CHECK(reader_said(reader_takes(reader_refusals[3].events), MK_SOURCE, READER_NAK_2));
-}
-
-// Another type inside a message bars the hub: 10 until a message gap, 1 to 7 as ever.
-static void test_other_type(void)
-{
-    CHECK(hub_said(hub_takes("06 F3 00 02 1B 38 FE B2"), MK_ADDED, HUB_ACK));
-    CHECK(hub_said(hub_takes("06 F3 00 00 1C 38 FE B3"), MK_BARRED, HUB_NAK_6));
-    CHECK(hub_said(hub_takes(". " PIECE), MK_BARRED, HUB_NAK_6));
-    CHECK(hub_said(hub_takes(". " MARKED_PIECE), MK_BARRED, HUB_NAK_6));
-    CHECK(hub_said(hub_takes(". 04 F3 00 00 FF 09"), MK_DATA, HUB_NAK_2));
-    CHECK(hub_said(hub_takes("/ " PIECE), MK_MESSAGE, HUB_ACK));
-}
-
-static mk_hub_told hub_gets_piece(uint8_t status, size_t count)
-{
-    uint8_t packet[MK_PACKET_SIZE], data[MK_DATA_SIZE];
-    data[0] = 0x1B;
-    memcpy(data + 1, message, count);
-    return hub_gets(packet, make_packet(packet, MK_OPCODE_DECODE_DATA, MK_SOURCE_READER, status, data, count + 1));
-}
-
-static void test_total(void)
-{
-    for (size_t last = 96; last <= 97; last++) {
-        mk_hub_event(hub, MK_MESSAGE_GAP);
-        for (int i = 0; i < 16; i++)
-            CHECK(hub_said(hub_gets_piece(MK_STATUS_MORE, 250), MK_ADDED, HUB_ACK));
-        mk_hub_told told = hub_gets_piece(0, last);
-        CHECK(last == 96 ? hub_said(told, MK_MESSAGE, HUB_ACK) : hub_said(told, MK_BARRED, HUB_NAK_6));
-        CHECK(told.count == (last == 96 ? 4096 : 0));
-    }
-}
-
-// Number 11: over 4,096 bytes, and one still out. Nothing changes.
-static void test_refused_starts(void)
-{
-    remember();
-    CHECK(is_sent(mk_sender_send(sender, 0x1B, message, 4097), MK_SENDER, 0));
-    CHECK(is_sent(mk_reader_send(reader, 0x1B, message, 4097), MK_SENDER, 0));
-    CHECK(nothing_changed() && !mk_sender_out(sender));
-    CHECK(is_sent(mk_sender_send(sender, 0x1B, message, 1), MK_COPY, 8));
-    CHECK(is_sent(mk_reader_send(reader, 0x1B, message, 1), MK_COPY, 8));
-    remember();
-    CHECK(is_sent(mk_sender_send(sender, 0x1C, message, 2), MK_SENDER, 0));
-    CHECK(is_sent(mk_reader_send(reader, 0x1C, message, 2), MK_SENDER, 0));
-    CHECK(nothing_changed() && mk_sender_out(sender));
-}
-
-// ---- document 01, 'Cases for one table'
+// ---- ten cases worked by hand
 
 typedef struct {
     const char *packet;
@@ -1049,7 +493,6 @@ static const packet_case packet_cases[] = {
 static void test_case_packets(void)
 {
     const uint8_t *packet = room.packet;
-    const size_t *head = room.values;
     for (size_t i = 0; i < COUNT(packet_cases); i++) {
         const packet_case *due = &packet_cases[i];
         uint8_t data[EVENTS];
@@ -1058,9 +501,9 @@ static void test_case_packets(void)
         CHECK(mk_build(room.packet, MK_PACKET_SIZE, due->opcode, due->source, due->status, data, count, room.values)
             == MK_WRITTEN);
         CHECK(room.values[0] == size && reads(packet, size, due->packet) && stays(packet, size, MK_PACKET_SIZE));
-        CHECK(mk_check(packet, size, room.values) == MK_PACKET && head[0] == size - 2 && head[1] == due->opcode);
-        CHECK(head[2] == due->source && head[3] == due->status);
-        CHECK(mk_check(packet, size - 1, room.values) == MK_CUT && head[0] == 0);
+        CHECK(mk_check(packet, size, room.values) == MK_PACKET);
+        CHECK(is_head(room.values, size - 2, due->opcode, due->source, due->status));
+        CHECK(mk_check(packet, size - 1, room.values) == MK_CUT && is_head(room.values, 0, 0, 0, 0));
     }
 }
 
@@ -1079,15 +522,6 @@ static void test_case_frames(void)
         CHECK(told.head.source == due->source && told.head.status == due->status);
         CHECK(memcmp(framer->line, packet, size) == 0 && reads(framer->line + 4, told.head.length - 4, due->data));
     }
-}
-
-// What the check says of no bytes, of a length below 4, and of too few bytes.
-static void test_short_packets(void)
-{
-    static const uint8_t lengths[] = {3, 4};
-    CHECK(mk_check(lengths, 0, room.values) == MK_CUT);
-    CHECK(mk_check(lengths, 1, room.values) == MK_LENGTH);
-    CHECK(mk_check(lengths + 1, 1, room.values) == MK_CUT);
 }
 
 static bool answers(uint8_t source, uint32_t reply, const char *text)
@@ -1160,7 +594,7 @@ static void test_case_cuts(void)
         }
         CHECK(is_sent(sent, MK_DELIVERED, 0) && pieces == cuts[i][1] && last == cuts[i][2]);
     }
-    CHECK(is_sent(mk_sender_send(sender, 0x1B, message, 4097), MK_SENDER, 0));
+    CHECK(is_sent(mk_sender_send(sender, 0x1B, message, 4097), MK_START, 0));
 }
 
 // ---- both ends
@@ -1247,7 +681,7 @@ static void test_equal_cards(void)
 static void test_longest_message(void)
 {
     CHECK(deliver(0x1B, 4096) == 17);
-    CHECK(is_sent(mk_reader_send(reader, 0x1B, message, 4097), MK_SENDER, 0));
+    CHECK(is_sent(mk_reader_send(reader, 0x1B, message, 4097), MK_START, 0));
     CHECK(deliver(0x1C, 250) == 1);
 }
 
@@ -1272,11 +706,22 @@ static void test_failures(void)
 
 // ---- the reader's commands
 
-// Table 2-12 up to the highest code that is allowed: duration, pitch, number of beeps.
+// The beep codes that are allowed (docs/PROTOCOL.md §13): duration, pitch, number of beeps.
+#define ONE_TO_FIVE(duration, pitch) \
+    {duration, pitch, 1}, {duration, pitch, 2}, {duration, pitch, 3}, {duration, pitch, 4}, {duration, pitch, 5}
+
 static const mk_beep beeps[] = {
-    {0, 0, 1}, {0, 0, 2}, {0, 0, 3}, {0, 0, 4}, {0, 0, 5}, {0, 1, 1}, {0, 1, 2}, {0, 1, 3}, {0, 1, 4}, {0, 1, 5},
-    {1, 0, 1}, {1, 0, 2}, {1, 0, 3}, {1, 0, 4}, {1, 0, 5}, {1, 1, 1}, {1, 1, 2}, {1, 1, 3}, {1, 1, 4}, {1, 1, 5},
-    {2, 2, 4}, {3, 2, 4}, {4, 3, 2}, {5, 4, 2}, {6, 5, 3}, {7, 6, 3}, {1, 7, 4},
+    ONE_TO_FIVE(MK_DURATION_SHORT, MK_PITCH_HIGH),
+    ONE_TO_FIVE(MK_DURATION_SHORT, MK_PITCH_LOW),
+    ONE_TO_FIVE(MK_DURATION_LONG, MK_PITCH_HIGH),
+    ONE_TO_FIVE(MK_DURATION_LONG, MK_PITCH_LOW),
+    {MK_DURATION_FAST_WARBLE, MK_PITCH_HIGH_LOW_HIGH_LOW, 4},
+    {MK_DURATION_SLOW_WARBLE, MK_PITCH_HIGH_LOW_HIGH_LOW, 4},
+    {MK_DURATION_MIX_1, MK_PITCH_HIGH_LOW, 2},
+    {MK_DURATION_MIX_2, MK_PITCH_LOW_HIGH, 2},
+    {MK_DURATION_MIX_3, MK_PITCH_HIGH_LOW_HIGH, 3},
+    {MK_DURATION_MIX_4, MK_PITCH_LOW_HIGH_LOW, 3},
+    {MK_DURATION_LONG, MK_PITCH_HIGH_HIGH_LOW_LOW, 4},
 };
 
 static bool sounds(mk_reader_told told, mk_beep beep)
@@ -1303,9 +748,15 @@ static void test_beeps(void)
 
 // Parameter, lowest, highest, house default.
 static const uint8_t settings[][4] = {
-    {MK_PARAMETER_POWER_MODE, 0, 1, 0}, {MK_PARAMETER_SAME_SYMBOL_TIME, 0, 99, 10}, {MK_PARAMETER_TRIGGER, 0, 8, 0},
-    {MK_PARAMETER_RESPONSE_TIME_OUT, 0, 99, 20}, {MK_PARAMETER_BAUD, 1, 7, 6}, {MK_PARAMETER_PARITY, 0, 4, 4},
-    {MK_PARAMETER_ACK_NAK, 0, 1, 1}, {MK_PARAMETER_AIM_DURATION, 0, 99, 0}, {MK_PARAMETER_PACKETED_DATA, 0, 1, 1},
+    {MK_PARAMETER_POWER_MODE, MK_POWER_CONTINUOUS, MK_POWER_LOW, MK_POWER_CONTINUOUS},
+    {MK_PARAMETER_SAME_SYMBOL_TIME, 0, 99, 10},
+    {MK_PARAMETER_TRIGGER, MK_TRIGGER_LEVEL, MK_TRIGGER_HOST, MK_TRIGGER_LEVEL},
+    {MK_PARAMETER_RESPONSE_TIME_OUT, 0, 99, 20},
+    {MK_PARAMETER_BAUD, MK_BAUD_300, MK_BAUD_19200, MK_BAUD_9600},
+    {MK_PARAMETER_PARITY, MK_PARITY_ODD, MK_PARITY_NONE, MK_PARITY_NONE},
+    {MK_PARAMETER_ACK_NAK, MK_ACK_NAK_OFF, MK_ACK_NAK_ON, MK_ACK_NAK_ON},
+    {MK_PARAMETER_AIM_DURATION, 0, 99, 0},
+    {MK_PARAMETER_PACKETED_DATA, MK_DATA_RAW, MK_DATA_PACKETED, MK_DATA_PACKETED},
 };
 
 static uint32_t set(uint8_t status, uint8_t number, unsigned value)
@@ -1322,30 +773,32 @@ static void test_settings(void)
         for (unsigned value = 0; value < 256; value++) {
             bool allowed = value >= settings[i][1] && value <= settings[i][2];
             if (number == MK_PARAMETER_TRIGGER)
-                allowed = value == 0 || value == 2 || value == 4 || value == 7 || value == 8;
+                allowed = value == MK_TRIGGER_LEVEL || value == MK_TRIGGER_PULSE || value == MK_TRIGGER_CONTINUOUS
+                    || value == MK_TRIGGER_BLINKING || value == MK_TRIGGER_HOST;
             uint8_t present = mk_reader_parameter(reader, number);
-            CHECK(set(0, number, value) == (allowed ? MK_ACTED : MK_PARAMETER));
+            CHECK(set(0, number, value) == (allowed ? MK_ACTED : MK_SETTING));
             CHECK(mk_reader_parameter(reader, number) == (allowed ? value : present));
         }
         mk_reader_restart(reader);
         CHECK(mk_reader_parameter(reader, number) == house);
     }
-    CHECK(mk_reader_parameter(reader, 0x81) == 0 && set(0, 0x81, 0) == MK_PARAMETER);
+    CHECK(mk_reader_parameter(reader, 0x81) == 0 && set(0, 0x81, 0) == MK_SETTING);
 }
 
 static void test_power_up(void)
 {
-    CHECK(set(MK_STATUS_PERMANENT, MK_PARAMETER_BAUD, 5) == MK_ACTED);
-    CHECK(set(0, MK_PARAMETER_BAUD, 3) == MK_ACTED && mk_reader_parameter(reader, MK_PARAMETER_BAUD) == 3);
+    CHECK(set(MK_STATUS_PERMANENT, MK_PARAMETER_BAUD, MK_BAUD_4800) == MK_ACTED);
+    CHECK(set(0, MK_PARAMETER_BAUD, MK_BAUD_1200) == MK_ACTED);
+    CHECK(mk_reader_parameter(reader, MK_PARAMETER_BAUD) == MK_BAUD_1200);
     mk_reader_send(reader, 0x1B, message, 1);
     mk_reader_event(reader, 0x05);
     mk_reader_restart(reader);
-    CHECK(mk_reader_parameter(reader, MK_PARAMETER_BAUD) == 5);
+    CHECK(mk_reader_parameter(reader, MK_PARAMETER_BAUD) == MK_BAUD_4800);
     CHECK(mk_reader_event(reader, MK_CHARACTER_GAP).number == MK_NOTHING); // no packet begun
     CHECK(is_sent(mk_reader_expire(reader), MK_NOTHING, 0));               // no message out
     CHECK(command(MK_OPCODE_PARAM_DEFAULTS, 0, message, 0).number == MK_ACTED);
     mk_reader_restart(reader);
-    CHECK(mk_reader_parameter(reader, MK_PARAMETER_BAUD) == 6);
+    CHECK(mk_reader_parameter(reader, MK_PARAMETER_BAUD) == MK_BAUD_9600);
     mk_reader_told told = reader_takes("05 C7 04 00 FE FE 32");
     CHECK(reader_said(told, MK_ACTED, "17 C6 00 00 FF 80 00 89 0A 8A 00 9B 14 9C 06 9E 04 9F 01 ED 00 EE 01 F8 18"));
     CHECK(told.answer == MK_READER_ANSWER_SIZE);
@@ -1386,13 +839,7 @@ static void test_switches(void)
     CHECK(switched(true, false, false, false));
 }
 
-// ---- all of them
-
-static const struct {
-    const char *name;
-    void (*run)(void);
-} tests[] = {
-    {"rooms", test_rooms},
+static const test tests[] = {
     {"garbage: packets", test_garbage_packets},
     {"garbage: framer", test_garbage_framer},
     {"garbage: hub", test_garbage_hub},
@@ -1400,13 +847,6 @@ static const struct {
     {"garbage: reader", test_garbage_reader},
     {"init", test_init},
     {"never initialised", test_never_initialised},
-    {"hub refusals", test_hub_refusals},
-    {"reader refusals", test_reader_refusals},
-    {"waiting reader", test_waiting_reader},
-    {"other type", test_other_type},
-    {"total", test_total},
-    {"refused starts", test_refused_starts},
-    {"short packets", test_short_packets},
     {"cases: packets", test_case_packets},
     {"cases: frames", test_case_frames},
     {"cases: answers", test_case_answers},
@@ -1429,15 +869,5 @@ int main(int argc, char **argv)
     if (argc != 2)
         stop("usage: test examples/88.txt");
     read_story(argv[1]);
-    lay_ground();
-    for (size_t i = 0; i < COUNT(tests); i++) {
-        testing = tests[i].name;
-        fresh_machines();
-        tests[i].run();
-        CHECK(guards_stand());
-    }
-    if (failures > 0)
-        fprintf(stderr, "c: %lu failures\n", failures);
-    printf("c: %lu checks\n", checks);
-    return failures > 0;
+    return run_tests(tests, COUNT(tests));
 }

@@ -10,7 +10,7 @@ use crate::sender::End;
 
 #[derive(Clone, Copy, PartialEq, Eq, Debug)]
 pub enum Side {
-    /// The hub listing of document 01.
+    /// The hub listing (docs/PROTOCOL.md, §16).
     Hub,
     /// The hub's whole end, which tells refusals too and takes other rooms.
     DeskHub,

@@ -1,4 +1,4 @@
-//! The parameter table and Table 2-12, the beeps.
+//! The parameter table (docs/PROTOCOL.md, §12) and the beep codes (§13).
 
 /// Parameter, lowest, highest, house default.
 pub const ROWS: [[u8; 4]; 9] = [
@@ -63,7 +63,7 @@ impl Table {
     }
 }
 
-/// The highest beep code allowed; Table 2-12 itself goes on to 1Dh.
+/// The highest beep code allowed; the table of §13 itself goes on to 1Dh.
 pub const HIGHEST_BEEP: u8 = 0x1A;
 /// In PARAM_SEND only.
 pub const NO_BEEP: u8 = 0xFF;

@@ -1,4 +1,4 @@
-//! The packets of document 01, of the listings page and of the sources, and the readings of the open points.
+//! The packets of docs/PROTOCOL.md (§2, §17), of the published guides, and the readings of the open points.
 
 use crate::framer::{Framed, Framer, LineEvent};
 use crate::listing::{output, Side};

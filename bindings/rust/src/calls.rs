@@ -6,10 +6,13 @@
 //!
 //! Each gives the library's number, and the values that were told with it.
 
+use crate::constants::{
+    HEAD_VALUES, HUB_VALUES, LINE_SIZE, MESSAGE_SIZE, READER_ANSWER_SIZE, READER_VALUES, SWITCH_VALUES,
+};
 use crate::raw;
 
-pub(crate) fn check(bytes: &[u8]) -> (u32, [usize; 4]) {
-    let mut head = [0; 4];
+pub(crate) fn check(bytes: &[u8]) -> (u32, [usize; HEAD_VALUES]) {
+    let mut head = [0; HEAD_VALUES];
     // SAFETY: the rule above.
     let number = unsafe { raw::mk_check(bytes.as_ptr(), bytes.len(), &mut head) };
     (number, head)
@@ -35,8 +38,8 @@ pub(crate) fn framer_idle(control: &mut [u8]) -> u32 {
     unsafe { raw::mk_framer_idle(control.as_mut_ptr(), control.len()) }
 }
 
-pub(crate) fn framer_hear(control: &mut [u8], line: &mut [u8], event: u32) -> (u32, [usize; 4]) {
-    let mut head = [0; 4];
+pub(crate) fn framer_hear(control: &mut [u8], line: &mut [u8], event: u32) -> (u32, [usize; HEAD_VALUES]) {
+    let mut head = [0; HEAD_VALUES];
     let (state, to) = (control.as_mut_ptr(), line.as_mut_ptr());
     // SAFETY: the rule above.
     let number = unsafe { raw::mk_framer_hear(state, control.len(), to, line.len(), event, &mut head) };
@@ -50,13 +53,13 @@ pub(crate) fn hub_on(control: &mut [u8]) -> u32 {
 
 pub(crate) fn hub_hear(
     control: &mut [u8],
-    line: &mut [u8; 514],
-    gather: &mut [u8; 4096],
+    line: &mut [u8; LINE_SIZE],
+    gather: &mut [u8; MESSAGE_SIZE],
     answer: &mut [u8],
     message: &mut [u8],
     event: u32,
-) -> (u32, [usize; 3]) {
-    let mut values = [0; 3];
+) -> (u32, [usize; HUB_VALUES]) {
+    let mut values = [0; HUB_VALUES];
     // SAFETY: the rule above.
     let number = unsafe {
         raw::mk_hub_hear(
@@ -82,7 +85,7 @@ pub(crate) fn sender_idle(control: &mut [u8], failed: bool) -> u32 {
 
 pub(crate) fn sender_start(
     control: &mut [u8],
-    buffer: &mut [u8; 4096],
+    buffer: &mut [u8; MESSAGE_SIZE],
     room: &mut [u8],
     code: u8,
     message: &[u8],
@@ -105,7 +108,12 @@ pub(crate) fn sender_start(
     (number, value)
 }
 
-pub(crate) fn sender_hear(control: &mut [u8], buffer: &[u8; 4096], room: &mut [u8], heard: u32) -> (u32, usize) {
+pub(crate) fn sender_hear(
+    control: &mut [u8],
+    buffer: &[u8; MESSAGE_SIZE],
+    room: &mut [u8],
+    heard: u32,
+) -> (u32, usize) {
     let mut value = 0;
     let (state, to) = (control.as_mut_ptr(), room.as_mut_ptr());
     // SAFETY: the rule above.
@@ -135,7 +143,7 @@ pub(crate) fn reader_power_up(control: &mut [u8]) -> u32 {
 
 pub(crate) fn reader_start(
     control: &mut [u8],
-    message: &mut [u8; 4096],
+    message: &mut [u8; MESSAGE_SIZE],
     copy: &mut [u8],
     code: u8,
     bytes: &[u8],
@@ -158,7 +166,7 @@ pub(crate) fn reader_start(
     (number, value)
 }
 
-pub(crate) fn reader_time_out(control: &mut [u8], message: &[u8; 4096], copy: &mut [u8]) -> (u32, usize) {
+pub(crate) fn reader_time_out(control: &mut [u8], message: &[u8; MESSAGE_SIZE], copy: &mut [u8]) -> (u32, usize) {
     let mut value = 0;
     let (state, to) = (control.as_mut_ptr(), copy.as_mut_ptr());
     // SAFETY: the rule above.
@@ -168,14 +176,14 @@ pub(crate) fn reader_time_out(control: &mut [u8], message: &[u8; 4096], copy: &m
 
 pub(crate) fn reader_hear(
     control: &mut [u8],
-    line: &mut [u8; 514],
-    answers: &mut [u8; 25],
-    message: &[u8; 4096],
+    line: &mut [u8; LINE_SIZE],
+    answers: &mut [u8; READER_ANSWER_SIZE],
+    message: &[u8; MESSAGE_SIZE],
     answer: &mut [u8],
     copy: &mut [u8],
     event: u32,
-) -> (u32, [usize; 6]) {
-    let mut values = [0; 6];
+) -> (u32, [usize; READER_VALUES]) {
+    let mut values = [0; READER_VALUES];
     // SAFETY: the rule above.
     let number = unsafe {
         raw::mk_reader_hear(
@@ -202,8 +210,8 @@ pub(crate) fn reader_value(control: &[u8], number: u8) -> (u32, usize) {
     (told, value)
 }
 
-pub(crate) fn reader_switches(control: &[u8]) -> (u32, [usize; 4]) {
-    let mut values = [0; 4];
+pub(crate) fn reader_switches(control: &[u8]) -> (u32, [usize; SWITCH_VALUES]) {
+    let mut values = [0; SWITCH_VALUES];
     // SAFETY: the rule above.
     let told = unsafe { raw::mk_reader_switches(control.as_ptr(), control.len(), &mut values) };
     (told, values)

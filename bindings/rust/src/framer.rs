@@ -1,7 +1,8 @@
 //! The framer with its buffers.
 
 use crate::buffer::{control, Buffer};
-use crate::lent::framer::{self, CONTROL, LINE};
+use crate::constants::{FRAMER_CONTROL_SIZE, PACKET_SIZE};
+use crate::lent::framer;
 use crate::packet::Head;
 use crate::{Event, Refusal};
 
@@ -25,8 +26,8 @@ pub enum Found<'a> {
 /// Bytes and gaps of a line into packets, one event at a time.
 #[derive(Clone, Debug, PartialEq, Eq)]
 pub struct Framer {
-    control: [u8; CONTROL],
-    line: Buffer<LINE>,
+    control: [u8; FRAMER_CONTROL_SIZE],
+    line: Buffer<PACKET_SIZE>,
 }
 
 impl Framer {

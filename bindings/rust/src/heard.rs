@@ -1,10 +1,6 @@
 //! What goes in: events of a line, what a sender hears, replies; and the numbers that the library takes for them.
 
-const CHARACTER_GAP: u32 = 256;
-const MESSAGE_GAP: u32 = 257;
-const ACK: u32 = 256;
-const TIME_OUT: u32 = 257;
-const NOTHING: u32 = 258;
+use crate::constants::{CHARACTER_GAP, HEARD_ACK, HEARD_NOTHING, HEARD_TIME_OUT, MESSAGE_GAP, REPLY_ACK};
 
 /// What happens on a line.
 #[derive(Clone, Copy, Debug, PartialEq, Eq, Hash)]
@@ -46,9 +42,9 @@ impl Heard {
     pub fn number(self) -> u32 {
         match self {
             Heard::Nak(cause) => cause.into(),
-            Heard::Ack => ACK,
-            Heard::TimeOut => TIME_OUT,
-            Heard::Nothing => NOTHING,
+            Heard::Ack => HEARD_ACK,
+            Heard::TimeOut => HEARD_TIME_OUT,
+            Heard::Nothing => HEARD_NOTHING,
         }
     }
 
@@ -56,8 +52,8 @@ impl Heard {
     pub fn from_number(number: u32) -> Heard {
         match (u8::try_from(number), number) {
             (Ok(cause), _) => Heard::Nak(cause),
-            (_, ACK) => Heard::Ack,
-            (_, TIME_OUT) => Heard::TimeOut,
+            (_, HEARD_ACK) => Heard::Ack,
+            (_, HEARD_TIME_OUT) => Heard::TimeOut,
             _ => Heard::Nothing,
         }
     }
@@ -68,7 +64,7 @@ impl Heard {
 pub enum Reply {
     /// CMD_ACK.
     Ack,
-    /// CMD_NAK with its cause: 1 resend, 2 bad context, 6 denied.
+    /// CMD_NAK with its cause, one of `CAUSE_..` in [`constants`](crate::constants).
     Nak(u8),
 }
 
@@ -77,7 +73,7 @@ impl Reply {
     pub fn number(self) -> u32 {
         match self {
             Reply::Nak(cause) => cause.into(),
-            Reply::Ack => ACK,
+            Reply::Ack => REPLY_ACK,
         }
     }
 }

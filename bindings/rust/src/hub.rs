@@ -1,7 +1,8 @@
 //! The hub with its buffers.
 
 use crate::buffer::{control, Buffer};
-use crate::lent::hub::{self, ANSWER, CONTROL, LINE, MESSAGE};
+use crate::constants::{HUB_ANSWER_SIZE, HUB_CONTROL_SIZE, LINE_SIZE, MESSAGE_SIZE};
+use crate::lent::hub;
 use crate::{Event, Refusal};
 
 /// What an event brought a hub, with the answer that goes on the line.
@@ -54,11 +55,11 @@ impl<'a> HubTold<'a> {
 /// Decode data of a reader joined to messages, one event at a time.
 #[derive(Clone, Debug, PartialEq, Eq)]
 pub struct Hub {
-    control: [u8; CONTROL],
-    line: Buffer<LINE>,
-    gather: Buffer<MESSAGE>,
-    answer: [u8; ANSWER],
-    message: Buffer<MESSAGE>,
+    control: [u8; HUB_CONTROL_SIZE],
+    line: Buffer<LINE_SIZE>,
+    gather: Buffer<MESSAGE_SIZE>,
+    answer: [u8; HUB_ANSWER_SIZE],
+    message: Buffer<MESSAGE_SIZE>,
 }
 
 impl Hub {
@@ -68,7 +69,7 @@ impl Hub {
             control: control(hub::on),
             line: Buffer::new(),
             gather: Buffer::new(),
-            answer: [0; ANSWER],
+            answer: [0; HUB_ANSWER_SIZE],
             message: Buffer::new(),
         }
     }

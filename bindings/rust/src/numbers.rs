@@ -1,16 +1,6 @@
-//! What comes out: the numbers of the library, and the one rule by which all of them are read.
+//! What comes out: the one rule by which all numbers of the library are read.
 
 use crate::Refusal;
-
-pub(crate) const FOUND: u32 = 100;
-pub(crate) const ADDED: u32 = 110;
-pub(crate) const REPEATED: u32 = 111;
-pub(crate) const WHOLE: u32 = 112;
-pub(crate) const COPIED: u32 = 120;
-pub(crate) const DELIVERED: u32 = 121;
-pub(crate) const FAILED: u32 = 122;
-pub(crate) const OUT: u32 = 123;
-pub(crate) const ACTED: u32 = 130;
 
 /// A refusal's number is that refusal; any other number stands for itself. A caller that has no name for it reads it
 /// as nothing told. The library's promises name every number of every call, so none such comes

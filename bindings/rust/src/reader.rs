@@ -1,28 +1,35 @@
 //! The reader's whole end with its buffers.
 
 use crate::buffer::{control, Buffer};
-use crate::lent::reader::{self, ANSWER, CONTROL, COPY, LINE, MESSAGE};
+use crate::constants::{
+    LINE_SIZE, MESSAGE_SIZE, PACKET_SIZE, READER_ANSWER_SIZE, READER_CONTROL_SIZE, READER_VALUES, READER_VALUE_COUNT,
+    READER_VALUE_DURATION, READER_VALUE_PITCH, SWITCH_AIM, SWITCH_LED, SWITCH_SCANNING, SWITCH_SESSION, SWITCH_VALUES,
+};
+use crate::lent::reader;
 use crate::numbers::byte;
 use crate::sender::Outcome;
 use crate::{Event, Refusal};
 
-/// A row of Table 2-12.
+/// A sound to be made, as a beep code has it (docs/PROTOCOL.md §13).
 #[derive(Clone, Copy, Debug, PartialEq, Eq, Hash)]
 pub struct Beep {
-    /// 0 short, 1 long, 2 fast warble, 3 slow warble, 4 to 7 mix 1 to mix 4, 8 high click, 9 low click.
+    /// One of `DURATION_..` in [`constants`](crate::constants).
     pub duration: u8,
-    /// 0 high, 1 low, 2 high-low-high-low, 3 high-low, 4 low-high, 5 high-low-high, 6 low-high-low,
-    /// 7 high-high-low-low, 8 high-high-high, 9 low click.
+    /// One of `PITCH_..`.
     pub pitch: u8,
     /// How many beeps, at least 1.
-    pub number: u8,
+    pub count: u8,
 }
 
 impl Beep {
-    /// A row of no beeps is silence.
-    pub(crate) fn from_row([duration, pitch, number]: [usize; 3]) -> Option<Beep> {
-        let beep = Beep { duration: byte(duration), pitch: byte(pitch), number: byte(number) };
-        (beep.number > 0).then_some(beep)
+    /// A count of 0 is silence.
+    pub(crate) fn from_values(values: [usize; READER_VALUES]) -> Option<Beep> {
+        let beep = Beep {
+            duration: byte(values[READER_VALUE_DURATION]),
+            pitch: byte(values[READER_VALUE_PITCH]),
+            count: byte(values[READER_VALUE_COUNT]),
+        };
+        (beep.count > 0).then_some(beep)
     }
 }
 
@@ -30,7 +37,7 @@ impl Beep {
 #[derive(Clone, Copy, Debug, Default, PartialEq, Eq, Hash)]
 pub struct Switches {
     /// Scanning is enabled.
-    pub enabled: bool,
+    pub scanning: bool,
     /// A session is on.
     pub session: bool,
     /// Aim is on.
@@ -40,8 +47,13 @@ pub struct Switches {
 }
 
 impl Switches {
-    pub(crate) fn from_values([enabled, session, aim, led]: [usize; 4]) -> Switches {
-        Switches { enabled: enabled == 1, session: session == 1, aim: aim == 1, led: led == 1 }
+    pub(crate) fn from_values(values: [usize; SWITCH_VALUES]) -> Switches {
+        Switches {
+            scanning: values[SWITCH_SCANNING] == 1,
+            session: values[SWITCH_SESSION] == 1,
+            aim: values[SWITCH_AIM] == 1,
+            led: values[SWITCH_LED] == 1,
+        }
     }
 }
 
@@ -90,45 +102,46 @@ impl<'a> ReaderTold<'a> {
 /// The reader's end of the line: its commands with the parameter table, and its sender.
 #[derive(Clone, Debug, PartialEq, Eq)]
 pub struct Reader {
-    control: [u8; CONTROL],
-    line: Buffer<LINE>,
-    answers: [u8; ANSWER],
-    message: Buffer<MESSAGE>,
-    answer: [u8; ANSWER],
-    copy: Buffer<COPY>,
+    control: [u8; READER_CONTROL_SIZE],
+    line: Buffer<LINE_SIZE>,
+    answers: [u8; READER_ANSWER_SIZE],
+    message: Buffer<MESSAGE_SIZE>,
+    answer: [u8; READER_ANSWER_SIZE],
+    copy: Buffer<PACKET_SIZE>,
 }
 
 impl Reader {
-    /// A reader switched on with the house defaults.
+    /// A reader switched on with the house defaults. A message gap is due before the first message.
     pub fn new() -> Self {
         Self::with(control(reader::on))
     }
 
-    /// A reader that powers up with the permanent values in control bytes that were kept over a loss of power.
-    pub fn powered_up(kept: [u8; CONTROL]) -> Self {
+    /// A reader that powers up with the permanent values in control bytes that were kept over a loss of power. Then read
+    /// every parameter: if one is outside its range, nothing was kept (a blank memory), and [`Reader::new`] is due.
+    pub fn powered_up(kept: [u8; READER_CONTROL_SIZE]) -> Self {
         let mut reader = Self::with(kept);
         reader.power_up();
         reader
     }
 
-    fn with(control: [u8; CONTROL]) -> Self {
+    fn with(control: [u8; READER_CONTROL_SIZE]) -> Self {
         Reader {
             control,
             line: Buffer::new(),
-            answers: [0; ANSWER],
+            answers: [0; READER_ANSWER_SIZE],
             message: Buffer::new(),
-            answer: [0; ANSWER],
+            answer: [0; READER_ANSWER_SIZE],
             copy: Buffer::new(),
         }
     }
 
     /// The control bytes, in which the permanent values stand.
-    pub fn control(&self) -> &[u8; CONTROL] {
+    pub fn control(&self) -> &[u8; READER_CONTROL_SIZE] {
         &self.control
     }
 
     /// Power-up: permanent values are copied to present ones; framer, sender and the last accepted packet are
-    /// forgotten.
+    /// forgotten. So is whether the message before failed: a message gap is due before the first message after it.
     pub fn power_up(&mut self) {
         // The control bytes have their size: nothing to refuse.
         let _ = reader::power_up(&mut self.control);

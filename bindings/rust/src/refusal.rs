@@ -1,6 +1,7 @@
 //! Refusals by name and number.
 
-/// Why a call or a packet is refused. The numbers are those of document 01; 12 is unused.
+/// Why a call or a packet is refused, and its number (docs/PROTOCOL.md §6); 12 is unused. With 11 and 13 no lent byte
+/// changes.
 #[derive(Clone, Copy, Debug, PartialEq, Eq, PartialOrd, Ord, Hash)]
 pub enum Refusal {
     /// Length below 4.

@@ -1,7 +1,8 @@
 //! The sender with its buffers.
 
 use crate::buffer::{control, Buffer};
-use crate::lent::sender::{self, CONTROL, COPY, MESSAGE};
+use crate::constants::{MESSAGE_SIZE, PACKET_SIZE, SENDER_CONTROL_SIZE};
+use crate::lent::sender;
 use crate::{calls, Heard, Refusal};
 
 /// What a call brought a sender.
@@ -12,12 +13,13 @@ pub enum Outcome<'a> {
     Nothing,
     /// A copy of a packet, to be sent with a character gap after it.
     Copy(&'a [u8]),
-    /// The message was delivered.
+    /// The message was delivered: the hub has it.
     Delivered {
         /// Its marked copies.
         copies: usize,
     },
-    /// The message failed; a message gap is due before the next one.
+    /// The message failed; a message gap is due before the next one. The hub may have it all the same, where only its
+    /// answers were lost.
     Failed {
         /// Its marked copies.
         copies: usize,
@@ -35,9 +37,9 @@ pub fn heed(opcode: u8, source: u8, status: u8, data: &[u8]) -> Heard {
 /// A message cut into packets, each copied to the line until it is acknowledged.
 #[derive(Clone, Debug, PartialEq, Eq)]
 pub struct Sender {
-    control: [u8; CONTROL],
-    message: Buffer<MESSAGE>,
-    copy: Buffer<COPY>,
+    control: [u8; SENDER_CONTROL_SIZE],
+    message: Buffer<MESSAGE_SIZE>,
+    copy: Buffer<PACKET_SIZE>,
 }
 
 impl Sender {

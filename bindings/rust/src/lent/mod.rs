@@ -5,10 +5,11 @@
 //! buffers of fixed size are arrays. Bytes past what is written stay as they were in every room.
 //!
 //! ```
+//! use motikhund::constants::{HUB_ANSWER_SIZE, HUB_CONTROL_SIZE, LINE_SIZE, MESSAGE_SIZE};
 //! use motikhund::{lent::hub, Event, HubTold};
 //!
-//! let (mut control, mut line, mut gather) = ([0; hub::CONTROL], [0; hub::LINE], [0; hub::MESSAGE]);
-//! let (mut answer, mut message) = ([0; hub::ANSWER], [0; hub::MESSAGE]);
+//! let (mut control, mut line, mut gather) = ([0; HUB_CONTROL_SIZE], [0; LINE_SIZE], [0; MESSAGE_SIZE]);
+//! let (mut answer, mut message) = ([0; HUB_ANSWER_SIZE], [0; MESSAGE_SIZE]);
 //! hub::on(&mut control)?;
 //! let told = hub::hear(&mut control, &mut line, &mut gather, &mut answer, &mut message, Event::Byte(4));
 //! assert_eq!(told, HubTold::Nothing);

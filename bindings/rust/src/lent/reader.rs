@@ -1,36 +1,32 @@
 //! The reader's whole end over lent buffers.
 
-use crate::lent::sender::{self, outcome};
-use crate::numbers::{byte, done, front, told, ACTED, REPEATED};
+use crate::constants::{
+    ACTED, LINE_SIZE, MESSAGE_SIZE, READER_ANSWER_SIZE, READER_VALUE_ANSWER, READER_VALUE_SENT,
+    READER_VALUE_SENT_VALUE, REPEATED,
+};
+use crate::lent::sender::outcome;
+use crate::numbers::{byte, done, front, told};
 use crate::reader::{Beep, ReaderTold, Switches};
 use crate::sender::Outcome;
-use crate::{calls, packet, Event, Refusal};
+use crate::{calls, Event, Refusal};
 
-/// Control bytes.
-pub const CONTROL: usize = 83;
-/// The line buffer: one half receives, the last accepted packet stays in the other.
-pub const LINE: usize = 2 * packet::ROOM;
-/// The longest answer, in the answer room and where the last one is kept: a PARAM_SEND with all parameters.
-pub const ANSWER: usize = 25;
-/// The longest message, and the message buffer.
-pub const MESSAGE: usize = sender::MESSAGE;
-/// The copy room: the longest packet with its checksum.
-pub const COPY: usize = sender::COPY;
-
-/// A reader switched on with the house defaults.
+/// A reader switched on with the house defaults. A message gap is due before the first message. Its control value has
+/// [`READER_CONTROL_SIZE`](crate::constants::READER_CONTROL_SIZE).
 pub fn on(control: &mut [u8]) -> Result<(), Refusal> {
     done(calls::reader_on(control))
 }
 
-/// Power-up: permanent values are copied to present ones; framer, sender and the last accepted packet are forgotten.
+/// Power-up: permanent values are copied to present ones; framer, sender and the last accepted packet are forgotten. So
+/// is whether the message before failed: a message gap is due before the first message after it.
 pub fn power_up(control: &mut [u8]) -> Result<(), Refusal> {
     done(calls::reader_power_up(control))
 }
 
-/// Starts a message: it is copied to the buffer, and the first copy of its first packet is written.
+/// Starts a message: it is copied to the buffer, and the first copy of its first packet is written to the copy room
+/// ([`PACKET_SIZE`](crate::constants::PACKET_SIZE)).
 pub fn start<'a>(
     control: &mut [u8],
-    message: &mut [u8; MESSAGE],
+    message: &mut [u8; MESSAGE_SIZE],
     copy: &'a mut [u8],
     code: u8,
     bytes: &[u8],
@@ -40,31 +36,30 @@ pub fn start<'a>(
 }
 
 /// The sender's response time-out.
-pub fn time_out<'a>(control: &mut [u8], message: &[u8; MESSAGE], copy: &'a mut [u8]) -> Outcome<'a> {
+pub fn time_out<'a>(control: &mut [u8], message: &[u8; MESSAGE_SIZE], copy: &'a mut [u8]) -> Outcome<'a> {
     let (number, value) = calls::reader_time_out(control, message, copy);
     outcome(number, value, copy)
 }
 
 /// One event of the line. `answers` keeps the last answer for a resend; the answer then stands at the front of the
-/// answer room, a copy at the front of the copy room.
+/// answer room ([`READER_ANSWER_SIZE`]), a copy at the front of the copy room.
 pub fn hear<'a>(
     control: &mut [u8],
-    line: &mut [u8; LINE],
-    answers: &mut [u8; ANSWER],
-    message: &[u8; MESSAGE],
+    line: &mut [u8; LINE_SIZE],
+    answers: &mut [u8; READER_ANSWER_SIZE],
+    message: &[u8; MESSAGE_SIZE],
     answer: &'a mut [u8],
     copy: &'a mut [u8],
     event: Event,
 ) -> ReaderTold<'a> {
     let (number, values) = calls::reader_hear(control, line, answers, message, answer, copy, event.number());
-    let [size, duration, pitch, count, sent, value] = values;
-    let answer = front(answer, size);
+    let answer = front(answer, values[READER_VALUE_ANSWER]);
     match told(number) {
-        Ok(ACTED) => ReaderTold::Acted { beep: Beep::from_row([duration, pitch, count]), answer },
+        Ok(ACTED) => ReaderTold::Acted { beep: Beep::from_values(values), answer },
         Ok(REPEATED) => ReaderTold::Repeated { answer },
         Err(why) => ReaderTold::Refused { why, answer },
         // No command: if the host answered, the sender says what that brought.
-        Ok(_) => match outcome(sent as u32, value, copy) {
+        Ok(_) => match outcome(values[READER_VALUE_SENT] as u32, values[READER_VALUE_SENT_VALUE], copy) {
             Outcome::Nothing => ReaderTold::Nothing,
             outcome => ReaderTold::Sent(outcome),
         },

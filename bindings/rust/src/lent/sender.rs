@@ -1,25 +1,21 @@
 //! The sender over lent buffers.
 
-use crate::numbers::{done, front, told, COPIED, DELIVERED, FAILED, OUT};
+use crate::constants::{COPY, DELIVERED, FAILED, MESSAGE_SIZE, OUT};
+use crate::numbers::{done, front, told};
 use crate::sender::Outcome;
-use crate::{calls, packet, Heard, Refusal};
+use crate::{calls, Heard, Refusal};
 
-/// Control bytes.
-pub const CONTROL: usize = 35;
-/// The longest message, and the message buffer.
-pub const MESSAGE: usize = 4096;
-/// The copy room: the longest packet with its checksum.
-pub const COPY: usize = packet::ROOM;
-
-/// A sender with nothing out, after a message that failed or not.
+/// A sender with nothing out, after a message that failed or not. Its control value has
+/// [`SENDER_CONTROL_SIZE`](crate::constants::SENDER_CONTROL_SIZE).
 pub fn idle(control: &mut [u8], failed: bool) -> Result<(), Refusal> {
     done(calls::sender_idle(control, failed))
 }
 
-/// Starts a message: it is copied to the buffer, and the first copy of its first packet is written.
+/// Starts a message: it is copied to the buffer, and the first copy of its first packet is written to the copy room
+/// ([`PACKET_SIZE`](crate::constants::PACKET_SIZE)).
 pub fn start<'a>(
     control: &mut [u8],
-    buffer: &mut [u8; MESSAGE],
+    buffer: &mut [u8; MESSAGE_SIZE],
     copy: &'a mut [u8],
     code: u8,
     message: &[u8],
@@ -29,7 +25,7 @@ pub fn start<'a>(
 }
 
 /// One thing heard of the host.
-pub fn hear<'a>(control: &mut [u8], buffer: &[u8; MESSAGE], copy: &'a mut [u8], heard: Heard) -> Outcome<'a> {
+pub fn hear<'a>(control: &mut [u8], buffer: &[u8; MESSAGE_SIZE], copy: &'a mut [u8], heard: Heard) -> Outcome<'a> {
     let (number, value) = calls::sender_hear(control, buffer, copy, heard.number());
     outcome(number, value, copy)
 }
@@ -42,7 +38,7 @@ pub fn waits(control: &[u8]) -> Result<bool, Refusal> {
 /// What a sender brought, of its number, its value and the copy room. The reader's sender tells the same.
 pub(crate) fn outcome(number: u32, value: usize, copy: &[u8]) -> Outcome<'_> {
     match told(number) {
-        Ok(COPIED) => Outcome::Copy(front(copy, value)),
+        Ok(COPY) => Outcome::Copy(front(copy, value)),
         Ok(DELIVERED) => Outcome::Delivered { copies: value },
         Ok(FAILED) => Outcome::Failed { copies: value },
         Ok(_) => Outcome::Nothing,

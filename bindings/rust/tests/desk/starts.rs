@@ -1,6 +1,7 @@
 //! Messages of every length around the limits: `S`.
 
-use motikhund::packet::{build, DECODE_DATA, MORE, READER, ROOM};
+use motikhund::constants::{OPCODE_DECODE_DATA, PACKET_SIZE, SOURCE_READER, STATUS_MORE};
+use motikhund::packet::build;
 
 use crate::run::{hex, lines};
 
@@ -23,9 +24,9 @@ fn delivered(size: usize) -> String {
     }
     let last = pieces.len() - 1;
     let copy = |(number, piece): (usize, &&[u8])| {
-        let status = if number == last { 0 } else { MORE };
-        let mut room = [0; ROOM];
-        let packet = build(&mut room, DECODE_DATA, READER, status, &[&[0x1B], *piece].concat());
+        let status = if number == last { 0 } else { STATUS_MORE };
+        let mut room = [0; PACKET_SIZE];
+        let packet = build(&mut room, OPCODE_DECODE_DATA, SOURCE_READER, status, &[&[0x1B], *piece].concat());
         format!("C {}\n", hex(packet.expect("a packet")))
     };
     pieces.iter().enumerate().map(copy).chain(["D 0\n".to_string()]).collect()

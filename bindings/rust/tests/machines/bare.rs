@@ -1,6 +1,7 @@
 //! The raw calls over fenced buffers, and what the safe ones told as the numbers that the raw ones give, to be
 //! compared.
 
+use motikhund::constants::SWITCH_VALUES;
 use motikhund::packet::Head;
 use motikhund::{raw, Event, Found, HubTold, Outcome, ReaderTold, Refusal};
 
@@ -141,6 +142,12 @@ pub fn reader_value([control, ..]: &mut Reader, number: u8) -> (u32, usize) {
     (told, value)
 }
 
+pub fn reader_switches([control, ..]: &mut Reader) -> (u32, [usize; SWITCH_VALUES]) {
+    let (control, mut values) = (control.lent(), [JUNK; SWITCH_VALUES]);
+    let told = unsafe { raw::mk_reader_switches(control.as_ptr(), control.len(), &mut values) };
+    (told, values)
+}
+
 // ---- the same numbers, of what the safe calls told
 
 fn of_head(head: Head) -> [usize; 4] {
@@ -198,7 +205,7 @@ pub fn of_reader(told: ReaderTold<'_>) -> (u32, [usize; 6]) {
     match told {
         ReaderTold::Nothing => (0, [0; 6]),
         ReaderTold::Acted { beep, .. } => {
-            let row = beep.map_or([0; 3], |beep| [beep.duration, beep.pitch, beep.number]).map(usize::from);
+            let row = beep.map_or([0; 3], |beep| [beep.duration, beep.pitch, beep.count]).map(usize::from);
             (130, [answer, row[0], row[1], row[2], 0, 0])
         }
         ReaderTold::Repeated { .. } => (111, [answer, 0, 0, 0, 0, 0]),

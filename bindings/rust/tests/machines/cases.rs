@@ -1,6 +1,10 @@
-//! The ten cases of document 01.
+//! Ten cases worked by hand: answers (docs/PROTOCOL.md §7), packets built and checked (§4), a parameter set and asked
+//! for (§12), messages cut into pieces (§8).
 
-use motikhund::packet::{answer, build, check, Head, DECODE_DATA, HOST, MORE, PARAM_REQUEST, PARAM_SEND, READER};
+use motikhund::constants::{
+    OPCODE_DECODE_DATA, OPCODE_PARAM_REQUEST, OPCODE_PARAM_SEND, SOURCE_HOST, SOURCE_READER, STATUS_MORE,
+};
+use motikhund::packet::{answer, build, check, Head};
 use motikhund::{Heard, Hub, HubTold, Outcome, Reader, ReaderTold, Refusal, Reply, Sender};
 
 use crate::notation::{bytes, hub_ack, hub_hears, reader_ack, reader_hears, sent};
@@ -14,10 +18,10 @@ const ANSWER_8: &str = "07 C6 00 00 FF 8A 08 FD A2";
 #[test]
 fn cases_1_to_4_are_the_answers() {
     let cases = [
-        ("04 D0 04 00 FF 28", HOST, Reply::Ack),
-        ("04 D0 00 00 FF 2C", READER, Reply::Ack),
-        ("05 D1 04 00 01 FF 25", HOST, Reply::Nak(1)),
-        ("05 D1 00 00 06 FF 24", READER, Reply::Nak(6)),
+        ("04 D0 04 00 FF 28", SOURCE_HOST, Reply::Ack),
+        ("04 D0 00 00 FF 2C", SOURCE_READER, Reply::Ack),
+        ("05 D1 04 00 01 FF 25", SOURCE_HOST, Reply::Nak(1)),
+        ("05 D1 00 00 06 FF 24", SOURCE_READER, Reply::Nak(6)),
     ];
     for (text, source, reply) in cases {
         assert_eq!(answer(&mut [0; 7], source, reply), Ok(&bytes(text)[..]));
@@ -27,11 +31,11 @@ fn cases_1_to_4_are_the_answers() {
 #[test]
 fn cases_5_to_8_are_built_and_checked() {
     let cases: [(&str, u8, u8, &[u8]); 5] = [
-        (CASE_5, DECODE_DATA, READER, &[0x1B, 0x38]),
-        (CASE_6, DECODE_DATA, READER, &[0x1B]),
-        (CASE_7, PARAM_SEND, HOST, &[0xFF, 0x8A, 8]),
-        (CASE_8, PARAM_REQUEST, HOST, &[0x8A]),
-        (ANSWER_8, PARAM_SEND, READER, &[0xFF, 0x8A, 8]),
+        (CASE_5, OPCODE_DECODE_DATA, SOURCE_READER, &[0x1B, 0x38]),
+        (CASE_6, OPCODE_DECODE_DATA, SOURCE_READER, &[0x1B]),
+        (CASE_7, OPCODE_PARAM_SEND, SOURCE_HOST, &[0xFF, 0x8A, 8]),
+        (CASE_8, OPCODE_PARAM_REQUEST, SOURCE_HOST, &[0x8A]),
+        (ANSWER_8, OPCODE_PARAM_SEND, SOURCE_READER, &[0xFF, 0x8A, 8]),
     ];
     for (text, opcode, source, data) in cases {
         let whole = bytes(text);
@@ -79,10 +83,10 @@ fn pieces(size: usize) -> Vec<(u8, usize)> {
 #[test]
 fn cases_9_and_10_are_cut_into_pieces() {
     assert_eq!(pieces(250), [(0, 250)]);
-    assert_eq!(pieces(251), [(MORE, 250), (0, 1)]);
+    assert_eq!(pieces(251), [(STATUS_MORE, 250), (0, 1)]);
     let long = pieces(4_096);
     assert_eq!(long.len(), 17);
-    assert_eq!(long[..16], [(MORE, 250); 16]);
+    assert_eq!(long[..16], [(STATUS_MORE, 250); 16]);
     assert_eq!(long[16], (0, 96));
     assert_eq!(Sender::new().start(0x1B, &[0x38; 4_097]), Outcome::Refused(Refusal::Start));
 }

@@ -41,7 +41,7 @@ fn each_event_heard_and_reply_has_its_number() {
     assert_eq!(Reply::Ack.number(), 256);
 }
 
-/// The rule of document 01, for every opcode, and the fields around those that are right.
+/// The rule of docs/PROTOCOL.md §10, for every opcode, and the fields around those that are right.
 #[test]
 fn a_sender_heeds_right_answers_of_the_host() {
     for opcode in 0..=255 {

@@ -1,6 +1,9 @@
 //! A lent buffer between two fences, by which a write past its ends is seen.
 
-use motikhund::lent::{framer, hub, reader, sender};
+use motikhund::constants::{
+    FRAMER_CONTROL_SIZE, HUB_ANSWER_SIZE, HUB_CONTROL_SIZE, LINE_SIZE, MESSAGE_SIZE, PACKET_SIZE, READER_ANSWER_SIZE,
+    READER_CONTROL_SIZE, SENDER_CONTROL_SIZE,
+};
 
 use crate::dice::Dice;
 
@@ -15,17 +18,17 @@ pub enum Size {
 use Size::{Array, Room};
 
 /// What each machine is lent at an event, the sender at a start too.
-pub const FRAMER: [Size; 2] = [Room(framer::CONTROL), Room(framer::LINE)];
+pub const FRAMER: [Size; 2] = [Room(FRAMER_CONTROL_SIZE), Room(PACKET_SIZE)];
 pub const HUB: [Size; 5] =
-    [Room(hub::CONTROL), Array(hub::LINE), Array(hub::MESSAGE), Room(hub::ANSWER), Room(hub::MESSAGE)];
-pub const SENDER: [Size; 3] = [Room(sender::CONTROL), Array(sender::MESSAGE), Room(sender::COPY)];
+    [Room(HUB_CONTROL_SIZE), Array(LINE_SIZE), Array(MESSAGE_SIZE), Room(HUB_ANSWER_SIZE), Room(MESSAGE_SIZE)];
+pub const SENDER: [Size; 3] = [Room(SENDER_CONTROL_SIZE), Array(MESSAGE_SIZE), Room(PACKET_SIZE)];
 pub const READER: [Size; 6] = [
-    Room(reader::CONTROL),
-    Array(reader::LINE),
-    Array(reader::ANSWER),
-    Array(reader::MESSAGE),
-    Room(reader::ANSWER),
-    Room(reader::COPY),
+    Room(READER_CONTROL_SIZE),
+    Array(LINE_SIZE),
+    Array(READER_ANSWER_SIZE),
+    Array(MESSAGE_SIZE),
+    Room(READER_ANSWER_SIZE),
+    Room(PACKET_SIZE),
 ];
 
 impl Size {
@@ -50,10 +53,19 @@ pub struct Fenced {
     before: Vec<u8>,
 }
 
+/// Garbage of several kinds: one byte everywhere, or bytes from the dice.
+pub const FILLS: [Option<u8>; 8] = [Some(0x00), Some(0x01), Some(0x02), Some(0xAA), Some(0xFF), None, None, None];
+
 impl Fenced {
     /// So many bytes, they and their fences from the dice.
     pub fn new(dice: &mut Dice, size: usize) -> Fenced {
-        let bytes = dice.bytes(size + 2 * FENCE);
+        Fenced::filled(dice, size, None)
+    }
+
+    /// So many bytes, they and their fences of this kind.
+    pub fn filled(dice: &mut Dice, size: usize, fill: Option<u8>) -> Fenced {
+        let size = size + 2 * FENCE;
+        let bytes = fill.map_or_else(|| dice.bytes(size), |byte| vec![byte; size]);
         Fenced { before: bytes.clone(), bytes }
     }
 
@@ -71,7 +83,13 @@ impl Fenced {
         self.before.clone_from(&self.bytes);
     }
 
-    /// Whether everything is as it was, fences too.
+    /// The lent bytes as they were, to be written over with what is due.
+    pub fn due(&mut self) -> &mut [u8] {
+        let end = self.before.len() - FENCE;
+        &mut self.before[FENCE..end]
+    }
+
+    /// Whether everything is as it was, or as it is due, fences too.
     pub fn unchanged(&self) -> bool {
         self.bytes == self.before
     }

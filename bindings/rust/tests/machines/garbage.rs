@@ -4,6 +4,10 @@
 
 use std::collections::BTreeSet;
 
+use motikhund::constants::{
+    ANSWER_SIZE, FRAMER_CONTROL_SIZE, HUB_CONTROL_SIZE, LINE_SIZE, MESSAGE_SIZE, PACKET_SIZE, READER_ANSWER_SIZE,
+    READER_CONTROL_SIZE, SENDER_CONTROL_SIZE,
+};
 use motikhund::lent::{framer, hub, reader, sender};
 use motikhund::{packet, Heard, Reply};
 
@@ -69,7 +73,7 @@ fn the_packet() {
     let mut built = BTreeSet::new();
     runs(|dice| {
         let mut stream = Stream::new(dice.pick(&[Side::Hub, Side::Reader]));
-        let mut rooms = Twins::new(dice, [Size::Room(packet::ROOM), Size::Room(packet::ANSWER)]);
+        let mut rooms = Twins::new(dice, [Size::Room(PACKET_SIZE), Size::Room(ANSWER_SIZE)]);
         for _ in 0..EVENTS {
             let count = dice.pick(&[0, 1, 5, 300]);
             let some = if dice.chance(30) { dice.bytes(count) } else { stream.packet(dice) };
@@ -118,7 +122,7 @@ fn the_framer() {
             let [control, line] = &mut twins.safe;
             assert_eq!(bare::of_found(framer::hear(control.lent(), line.lent(), event)), told);
             seen.insert(told.0);
-            twins.agree([framer::CONTROL, framer::LINE]);
+            twins.agree([FRAMER_CONTROL_SIZE, PACKET_SIZE]);
         }
     });
     assert_eq!(seen, [0, 1, 2, 3, 100].into());
@@ -142,7 +146,7 @@ fn the_hub() {
             assert_eq!(bare::of_hub(safe), told);
             seen.insert(told.0);
             let (_, [answer, _, message]) = told;
-            twins.agree([hub::CONTROL, hub::LINE, hub::MESSAGE, answer, message]);
+            twins.agree([HUB_CONTROL_SIZE, LINE_SIZE, MESSAGE_SIZE, answer, message]);
         }
     });
     assert_eq!(seen, [0, 1, 2, 3, 4, 5, 6, 7, 10, 110, 111, 112].into());
@@ -187,7 +191,7 @@ fn the_sender() {
                 (told, 0)
             };
             seen.insert(told.0);
-            twins.agree([sender::CONTROL, taken, copied(told)]);
+            twins.agree([SENDER_CONTROL_SIZE, taken, copied(told)]);
             let waits = bare::sender_waits(&mut twins.bare[0]);
             assert_eq!(sender::waits(twins.safe[0].lent()).map(|out| if out { 123 } else { 0 }), Ok(waits));
             seen.insert(waits);
@@ -241,11 +245,11 @@ fn the_reader() {
                     let (number, [answer, _, _, _, sent, value]) = told;
                     seen.insert(number);
                     brought.insert(sent as u32);
-                    written = [reader::LINE, reader::ANSWER, 0, answer, copied((sent as u32, value))];
+                    written = [LINE_SIZE, READER_ANSWER_SIZE, 0, answer, copied((sent as u32, value))];
                 }
             }
             let [line, answers, message, answer, copy] = written;
-            twins.agree([reader::CONTROL, line, answers, message, answer, copy]);
+            twins.agree([READER_CONTROL_SIZE, line, answers, message, answer, copy]);
             let number = dice.pick(&[0x80, 0x89, 0x8A, 0x9B, 0x9C, 0x9E, 0x9F, 0xED, 0xEE, 0x00]);
             let (told, value) = bare::reader_value(&mut twins.bare, number);
             assert_eq!((told, Ok(value as u8)), (0, reader::value(twins.safe[0].lent(), number)));

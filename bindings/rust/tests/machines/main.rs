@@ -3,8 +3,10 @@
 mod bare;
 mod beeps;
 mod cases;
+mod constants;
 mod conversions;
 mod dice;
+mod every_byte;
 mod fenced;
 mod garbage;
 mod messages;

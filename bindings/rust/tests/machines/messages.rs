@@ -1,6 +1,7 @@
 //! Messages through both ends, and how a message ends.
 
-use motikhund::packet::{check, AIM_ON, DECODE_DATA, HOST, MORE, READER};
+use motikhund::constants::{OPCODE_AIM_ON, OPCODE_DECODE_DATA, SOURCE_HOST, SOURCE_READER, STATUS_MORE};
+use motikhund::packet::check;
 use motikhund::{Event, Heard, Hub, HubTold, Outcome, Reader, ReaderTold, Refusal, Sender};
 
 use crate::dice::Dice;
@@ -47,13 +48,13 @@ fn messages_of_every_length_that_matters() {
 #[test]
 fn the_hub_refuses_4097_and_is_barred_until_a_message_gap() {
     let ack = hub_ack();
-    let barred = HubTold::Refused { why: Refusal::Barred, answer: &nak(HOST, 6) };
+    let barred = HubTold::Refused { why: Refusal::Barred, answer: &nak(SOURCE_HOST, 6) };
     let mut hub = Hub::new();
     for _ in 0..16 {
-        let piece = packet(DECODE_DATA, READER, MORE, &[0x1B; 251]);
+        let piece = packet(OPCODE_DECODE_DATA, SOURCE_READER, STATUS_MORE, &[0x1B; 251]);
         assert_eq!(hub_hears(&mut hub, &sent(&piece)), HubTold::Added { answer: &ack });
     }
-    let last = |size: usize| sent(&packet(DECODE_DATA, READER, 0, &vec![0x1B; 1 + size]));
+    let last = |size: usize| sent(&packet(OPCODE_DECODE_DATA, SOURCE_READER, 0, &vec![0x1B; 1 + size]));
     assert_eq!(hub_hears(&mut hub.clone(), &last(96)), {
         HubTold::Message { code: 0x1B, message: &[0x1B; 4_096], answer: &ack }
     });
@@ -67,8 +68,8 @@ fn the_hub_refuses_4097_and_is_barred_until_a_message_gap() {
 #[test]
 fn a_message_gap_drops_what_was_gathered_and_a_character_gap_does_not() {
     let ack = hub_ack();
-    let piece = sent(&packet(DECODE_DATA, READER, MORE, b"\x1BSAMPLE "));
-    let last = sent(&packet(DECODE_DATA, READER, 0, b"\x1B8"));
+    let piece = sent(&packet(OPCODE_DECODE_DATA, SOURCE_READER, STATUS_MORE, b"\x1BSAMPLE "));
+    let last = sent(&packet(OPCODE_DECODE_DATA, SOURCE_READER, 0, b"\x1B8"));
     for (gap, message) in [(Event::CharacterGap, &b"SAMPLE 8"[..]), (Event::MessageGap, b"8")] {
         let mut hub = Hub::new();
         assert_eq!(hub_hears(&mut hub, &piece), HubTold::Added { answer: &ack });
@@ -117,9 +118,9 @@ fn resends_are_counted_over_the_whole_message() {
 fn a_reader_sends_and_takes_commands_at_once() {
     let mut reader = Reader::new();
     assert!(matches!(reader.start(0x1B, b"8"), Outcome::Copy(_)));
-    let aim = packet(AIM_ON, HOST, 0, &[]);
-    let acted = ReaderTold::Acted { beep: None, answer: &ack(READER) };
+    let aim = packet(OPCODE_AIM_ON, SOURCE_HOST, 0, &[]);
+    let acted = ReaderTold::Acted { beep: None, answer: &ack(SOURCE_READER) };
     assert_eq!(reader_hears(&mut reader, &sent(&aim)), acted);
     let delivered = ReaderTold::Sent(Outcome::Delivered { copies: 0 });
-    assert_eq!(reader_hears(&mut reader, &sent(&ack(HOST))), delivered);
+    assert_eq!(reader_hears(&mut reader, &sent(&ack(SOURCE_HOST))), delivered);
 }

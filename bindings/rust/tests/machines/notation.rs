@@ -1,6 +1,6 @@
 //! Events in the notation of the listings, packets laid out once more, and whole packets fed to a machine.
 
-use motikhund::packet::{CMD_ACK, CMD_NAK, HOST, READER};
+use motikhund::constants::{OPCODE_CMD_ACK, OPCODE_CMD_NAK, SOURCE_HOST, SOURCE_READER};
 use motikhund::{Event, Hub, HubTold, Reader, ReaderTold};
 
 /// Two digits a byte, `.` a character gap, `/` a message gap.
@@ -35,23 +35,23 @@ pub fn packet(opcode: u8, source: u8, status: u8, data: &[u8]) -> Vec<u8> {
 }
 
 pub fn command(opcode: u8, data: &[u8]) -> Vec<u8> {
-    packet(opcode, HOST, 0, data)
+    packet(opcode, SOURCE_HOST, 0, data)
 }
 
 pub fn ack(source: u8) -> Vec<u8> {
-    packet(CMD_ACK, source, 0, &[])
+    packet(OPCODE_CMD_ACK, source, 0, &[])
 }
 
 pub fn nak(source: u8, cause: u8) -> Vec<u8> {
-    packet(CMD_NAK, source, 0, &[cause])
+    packet(OPCODE_CMD_NAK, source, 0, &[cause])
 }
 
 pub fn hub_ack() -> Vec<u8> {
-    ack(HOST)
+    ack(SOURCE_HOST)
 }
 
 pub fn reader_ack() -> Vec<u8> {
-    ack(READER)
+    ack(SOURCE_READER)
 }
 
 /// What the last event brings; those before it bring nothing.

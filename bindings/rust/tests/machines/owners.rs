@@ -1,5 +1,9 @@
 //! The owning types do as their lent forms, and are values like others.
 
+use motikhund::constants::{
+    FRAMER_CONTROL_SIZE, HUB_ANSWER_SIZE, HUB_CONTROL_SIZE, LINE_SIZE, MESSAGE_SIZE, PACKET_SIZE, READER_ANSWER_SIZE,
+    READER_CONTROL_SIZE, SENDER_CONTROL_SIZE,
+};
 use motikhund::lent::{framer, hub, reader, sender};
 use motikhund::{Event, Found, Framer, Heard, Hub, HubTold, Outcome, Reader, ReaderTold, Sender};
 
@@ -11,7 +15,7 @@ const EVENTS: usize = 20_000;
 #[test]
 fn a_framer() {
     let (mut dice, mut stream) = (Dice::new(1), Stream::new(Side::Reader));
-    let (mut control, mut line) = ([0xFF; framer::CONTROL], [0; framer::LINE]);
+    let (mut control, mut line) = ([0xFF; FRAMER_CONTROL_SIZE], [0; PACKET_SIZE]);
     assert_eq!(framer::idle(&mut control), Ok(()));
     let mut owner = Framer::new();
     for _ in 0..EVENTS {
@@ -23,8 +27,8 @@ fn a_framer() {
 #[test]
 fn a_hub() {
     let (mut dice, mut stream) = (Dice::new(2), Stream::new(Side::Hub));
-    let (mut control, mut line, mut gather) = ([0xFF; hub::CONTROL], [0; hub::LINE], [0; hub::MESSAGE]);
-    let (mut answer, mut message) = ([0; hub::ANSWER], [0; hub::MESSAGE]);
+    let (mut control, mut line, mut gather) = ([0xFF; HUB_CONTROL_SIZE], [0; LINE_SIZE], [0; MESSAGE_SIZE]);
+    let (mut answer, mut message) = ([0; HUB_ANSWER_SIZE], [0; MESSAGE_SIZE]);
     assert_eq!(hub::on(&mut control), Ok(()));
     let mut owner = Hub::new();
     for _ in 0..EVENTS {
@@ -37,7 +41,7 @@ fn a_hub() {
 #[test]
 fn a_sender() {
     let mut dice = Dice::new(3);
-    let (mut control, mut buffer, mut copy) = ([0xFF; sender::CONTROL], [0; sender::MESSAGE], [0; sender::COPY]);
+    let (mut control, mut buffer, mut copy) = ([0xFF; SENDER_CONTROL_SIZE], [0; MESSAGE_SIZE], [0; PACKET_SIZE]);
     assert_eq!(sender::idle(&mut control, true), Ok(()));
     let mut owner = Sender::idle(true);
     for _ in 0..EVENTS {
@@ -57,8 +61,8 @@ fn a_sender() {
 #[test]
 fn a_reader() {
     let (mut dice, mut stream) = (Dice::new(4), Stream::new(Side::Reader));
-    let (mut control, mut line, mut answers) = ([0xFF; reader::CONTROL], [0; reader::LINE], [0; reader::ANSWER]);
-    let (mut message, mut answer, mut copy) = ([0; reader::MESSAGE], [0; reader::ANSWER], [0; reader::COPY]);
+    let (mut control, mut line, mut answers) = ([0xFF; READER_CONTROL_SIZE], [0; LINE_SIZE], [0; READER_ANSWER_SIZE]);
+    let (mut message, mut answer, mut copy) = ([0; MESSAGE_SIZE], [0; READER_ANSWER_SIZE], [0; PACKET_SIZE]);
     assert_eq!(reader::on(&mut control), Ok(()));
     let mut owner = Reader::new();
     for _ in 0..EVENTS {

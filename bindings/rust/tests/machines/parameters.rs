@@ -1,25 +1,25 @@
 //! Present and permanent values.
 
-use motikhund::packet::{HOST, PARAM_DEFAULTS, PARAM_REQUEST, PARAM_SEND, PERMANENT, READER, RESEND};
+use motikhund::constants::*;
 use motikhund::{Event, Reader, ReaderTold, Refusal};
 
 use crate::notation::{command, nak, packet, reader_ack, reader_hears, sent};
 
 /// Parameter, lowest, highest, house default.
 const ROWS: [[u8; 4]; 9] = [
-    [0x80, 0, 1, 0],
-    [0x89, 0, 99, 10],
-    [0x8A, 0, 8, 0],
-    [0x9B, 0, 99, 20],
-    [0x9C, 1, 7, 6],
-    [0x9E, 0, 4, 4],
-    [0x9F, 0, 1, 1],
-    [0xED, 0, 99, 0],
-    [0xEE, 0, 1, 1],
+    [PARAMETER_POWER_MODE, POWER_CONTINUOUS, POWER_LOW, POWER_CONTINUOUS],
+    [PARAMETER_SAME_SYMBOL_TIME, 0, 99, 10],
+    [PARAMETER_TRIGGER, TRIGGER_LEVEL, TRIGGER_HOST, TRIGGER_LEVEL],
+    [PARAMETER_RESPONSE_TIME_OUT, 0, 99, 20],
+    [PARAMETER_BAUD, BAUD_300, BAUD_19200, BAUD_9600],
+    [PARAMETER_PARITY, PARITY_ODD, PARITY_NONE, PARITY_NONE],
+    [PARAMETER_ACK_NAK, ACK_NAK_OFF, ACK_NAK_ON, ACK_NAK_ON],
+    [PARAMETER_AIM_DURATION, 0, 99, 0],
+    [PARAMETER_PACKETED_DATA, DATA_RAW, DATA_PACKETED, DATA_PACKETED],
 ];
 
 fn set(status: u8, pairs: &[u8]) -> Vec<u8> {
-    packet(PARAM_SEND, HOST, status, &[&[0xFF], pairs].concat())
+    packet(OPCODE_PARAM_SEND, SOURCE_HOST, status, &[&[0xFF], pairs].concat())
 }
 
 /// An ACK was the answer.
@@ -40,9 +40,9 @@ fn the_house_defaults() {
     let others = (0..=255).filter(|number| ROWS.iter().all(|row| row[0] != *number));
     assert!(others.clone().count() == 247 && others.clone().all(|number| reader.value(number) == 0));
     let pairs: Vec<u8> = ROWS.iter().flat_map(|[number, _, _, default]| [*number, *default]).collect();
-    let all = packet(PARAM_SEND, READER, 0, &[&[0xFF], &pairs[..]].concat());
+    let all = packet(OPCODE_PARAM_SEND, SOURCE_READER, 0, &[&[0xFF], &pairs[..]].concat());
     assert_eq!(all.len(), 25);
-    let told = reader_hears(&mut reader, &sent(&command(PARAM_REQUEST, &[0xFE])));
+    let told = reader_hears(&mut reader, &sent(&command(OPCODE_PARAM_REQUEST, &[0xFE])));
     assert_eq!(told, ReaderTold::Acted { beep: None, answer: &all });
 }
 
@@ -53,13 +53,13 @@ fn present_and_permanent_over_a_power_up() {
     assert_eq!(reader.value(0x89), 7);
     reader.power_up();
     assert_eq!(reader.value(0x89), 10);
-    acted(&mut reader, &set(PERMANENT, &[0x89, 9]));
+    acted(&mut reader, &set(STATUS_PERMANENT, &[0x89, 9]));
     acted(&mut reader, &set(0, &[0x89, 7]));
     assert_eq!(reader.value(0x89), 7);
     assert_eq!(Reader::powered_up(*reader.control()).value(0x89), 9);
     reader.power_up();
     assert_eq!(reader.value(0x89), 9);
-    acted(&mut reader, &command(PARAM_DEFAULTS, &[]));
+    acted(&mut reader, &command(OPCODE_PARAM_DEFAULTS, &[]));
     reader.power_up();
     assert_eq!(reader.value(0x89), 10);
 }
@@ -67,7 +67,7 @@ fn present_and_permanent_over_a_power_up() {
 #[test]
 fn power_up_forgets_the_last_accepted_packet_and_the_packet_begun() {
     let mut reader = Reader::new();
-    let again = set(RESEND, &[0x89, 5]);
+    let again = set(STATUS_RESEND, &[0x89, 5]);
     acted(&mut reader, &set(0, &[0x89, 5]));
     assert_eq!(reader_hears(&mut reader, &sent(&again)), ReaderTold::Repeated { answer: &reader_ack() });
     assert_eq!(reader_hears(&mut reader, &sent(&again[..4])), ReaderTold::Nothing);
@@ -78,11 +78,11 @@ fn power_up_forgets_the_last_accepted_packet_and_the_packet_begun() {
 /// Each range's ends and their outer neighbours; one bad pair refuses the packet.
 #[test]
 fn all_or_nothing() {
-    let refused = ReaderTold::Refused { why: Refusal::Setting, answer: &nak(READER, 6) };
+    let refused = ReaderTold::Refused { why: Refusal::Setting, answer: &nak(SOURCE_READER, 6) };
     let bad = ROWS.iter().flat_map(|[number, low, high, _]| [(*number, low.wrapping_sub(1)), (*number, high + 1)]);
     for (number, value) in bad.chain([(0x8A, 1), (0x81, 0)]) {
         let mut reader = Reader::new();
-        let told = reader_hears(&mut reader, &sent(&set(PERMANENT, &[0x89, 5, number, value, 0x9B, 3])));
+        let told = reader_hears(&mut reader, &sent(&set(STATUS_PERMANENT, &[0x89, 5, number, value, 0x9B, 3])));
         assert_eq!(told, refused, "{number:02X} {value}");
         assert_eq!(reader.control()[26..44], Reader::new().control()[26..44]);
     }
@@ -100,13 +100,13 @@ fn all_or_nothing() {
 fn without_handshaking() {
     let mut reader = Reader::new();
     acted(&mut reader, &set(0, &[0x9F, 0]));
-    let again = reader_hears(&mut reader, &sent(&set(RESEND, &[0x9F, 0])));
+    let again = reader_hears(&mut reader, &sent(&set(STATUS_RESEND, &[0x9F, 0])));
     assert_eq!(again, ReaderTold::Repeated { answer: &reader_ack() });
     let short = reader.hear(Event::Byte(3));
     assert_eq!(short, ReaderTold::Refused { why: Refusal::Length, answer: &[] });
     assert_eq!(reader.hear(Event::CharacterGap), ReaderTold::Nothing);
     let on = reader_hears(&mut reader, &sent(&set(0, &[0x9F, 1])));
     assert_eq!(on, ReaderTold::Acted { beep: None, answer: &[] });
-    let again = reader_hears(&mut reader, &sent(&set(RESEND, &[0x9F, 1])));
+    let again = reader_hears(&mut reader, &sent(&set(STATUS_RESEND, &[0x9F, 1])));
     assert_eq!(again, ReaderTold::Repeated { answer: &[] });
 }

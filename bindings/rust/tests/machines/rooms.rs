@@ -1,30 +1,46 @@
 //! Rooms one byte too small, and of no bytes: 13, with every byte as it was.
 
+use std::fmt::Debug;
+
+use motikhund::constants::{
+    ANSWER_SIZE, DATA_SIZE, FRAMER_CONTROL_SIZE, HUB_ANSWER_SIZE, HUB_CONTROL_SIZE, LINE_SIZE, MESSAGE_SIZE,
+    OPCODE_BEEP, PACKET_SIZE, READER_CONTROL_SIZE, SENDER_CONTROL_SIZE, SOURCE_HOST,
+};
 use motikhund::lent::{framer, hub, reader, sender};
 use motikhund::{packet, Event, Found, Heard, HubTold, Outcome, ReaderTold, Refusal, Reply};
 
 use crate::bare;
 use crate::dice::Dice;
 use crate::fenced::Size::{self, Array, Room};
-use crate::fenced::{Fenced, FRAMER, HUB, READER, SENDER};
+use crate::fenced::{Fenced, FILLS, FRAMER, HUB, READER, SENDER};
 use crate::notation::{bytes, hub_ack};
 
 const ROUNDS: u64 = 50;
 
-/// Lends buffers to a call: each room in turn too small, then all full. The call gives its refusal, if it gave one.
-fn asks<const N: usize>(sizes: [Size; N], mut call: impl FnMut(&mut Dice, &mut [Fenced; N]) -> Option<Refusal>) {
+/// A call that gives its refusal, if it gave one.
+fn asks<const N: usize>(sizes: [Size; N], call: impl FnMut(&mut Dice, &mut [Fenced; N]) -> Option<Refusal>) {
+    lends(sizes, Some(Refusal::Room), call);
+}
+
+/// Lends buffers with garbage to a call: each room in turn too small, which gives `refused`, then all full.
+pub fn lends<const N: usize, T: PartialEq + Debug>(
+    sizes: [Size; N],
+    refused: T,
+    mut call: impl FnMut(&mut Dice, &mut [Fenced; N]) -> T,
+) {
     let full = sizes.map(Size::least);
     let short = (0..N).filter(|place| matches!(sizes[*place], Room(_)));
     for (seed, place) in (0..ROUNDS).flat_map(|seed| short.clone().map(move |place| (seed, place))) {
         let dice = &mut Dice::new(seed);
+        let fill = FILLS.get(seed as usize).copied().flatten();
         for size in [full[place] - 1, dice.below(full[place]), 0] {
-            let mut lent = full.map(|size| Fenced::new(dice, size));
-            lent[place] = Fenced::new(dice, size);
-            assert_eq!(call(dice, &mut lent), Some(Refusal::Room), "{size} bytes in place {place}");
+            let mut lent = full.map(|size| Fenced::filled(dice, size, fill));
+            lent[place] = Fenced::filled(dice, size, fill);
+            assert_eq!(call(dice, &mut lent), refused, "{size} bytes in place {place}");
             assert!(lent.iter().all(Fenced::unchanged), "{size} bytes in place {place}");
         }
-        let mut lent = full.map(|size| Fenced::new(dice, size));
-        assert_ne!(call(dice, &mut lent), Some(Refusal::Room));
+        let mut lent = full.map(|size| Fenced::filled(dice, size, fill));
+        assert_ne!(call(dice, &mut lent), refused);
         assert!(lent.iter().all(Fenced::fences_stand));
     }
 }
@@ -46,11 +62,11 @@ fn refused(outcome: Outcome<'_>) -> Option<Refusal> {
 
 #[test]
 fn of_the_packet() {
-    asks([Room(packet::ROOM), Array(251)], |dice, [room, data]| {
+    asks([Room(PACKET_SIZE), Array(DATA_SIZE)], |dice, [room, data]| {
         let status = dice.pick(&[0, 1, 4]);
-        packet::build(room.lent(), packet::BEEP, packet::HOST, status, data.lent()).err()
+        packet::build(room.lent(), OPCODE_BEEP, SOURCE_HOST, status, data.lent()).err()
     });
-    asks([Room(packet::ANSWER)], |dice, [room]| {
+    asks([Room(ANSWER_SIZE)], |dice, [room]| {
         let reply = if dice.chance(50) { Reply::Ack } else { Reply::Nak(dice.byte()) };
         packet::answer(room.lent(), dice.pick(&[0, 1, 4]), reply).err()
     });
@@ -58,7 +74,7 @@ fn of_the_packet() {
 
 #[test]
 fn of_the_framer() {
-    asks([Room(framer::CONTROL)], |_, [control]| framer::idle(control.lent()).err());
+    asks([Room(FRAMER_CONTROL_SIZE)], |_, [control]| framer::idle(control.lent()).err());
     asks(FRAMER, |dice, [control, line]| match framer::hear(control.lent(), line.lent(), event(dice)) {
         Found::Refused(why) => Some(why),
         _ => None,
@@ -67,7 +83,7 @@ fn of_the_framer() {
 
 #[test]
 fn of_the_hub() {
-    asks([Room(hub::CONTROL)], |_, [control]| hub::on(control.lent()).err());
+    asks([Room(HUB_CONTROL_SIZE)], |_, [control]| hub::on(control.lent()).err());
     asks(HUB, |dice, [control, line, gather, answer, message]| {
         match hub::hear(control.lent(), line.array(), gather.array(), answer.lent(), message.lent(), event(dice)) {
             HubTold::Refused { why, answer } => {
@@ -81,8 +97,8 @@ fn of_the_hub() {
 
 #[test]
 fn of_the_sender() {
-    asks([Room(sender::CONTROL)], |dice, [control]| sender::idle(control.lent(), dice.chance(50)).err());
-    asks([Room(sender::CONTROL)], |_, [control]| sender::waits(control.lent()).err());
+    asks([Room(SENDER_CONTROL_SIZE)], |dice, [control]| sender::idle(control.lent(), dice.chance(50)).err());
+    asks([Room(SENDER_CONTROL_SIZE)], |_, [control]| sender::waits(control.lent()).err());
     asks(SENDER, |dice, [control, buffer, copy]| {
         let size = dice.pick(&[0, 1, 300, 4_096, 4_097]);
         refused(sender::start(control.lent(), buffer.array(), copy.lent(), 0x1B, &dice.bytes(size)))
@@ -95,11 +111,11 @@ fn of_the_sender() {
 
 #[test]
 fn of_the_reader() {
-    asks([Room(reader::CONTROL)], |_, [control]| reader::on(control.lent()).err());
-    asks([Room(reader::CONTROL)], |_, [control]| reader::power_up(control.lent()).err());
-    asks([Room(reader::CONTROL)], |dice, [control]| reader::value(control.lent(), dice.byte()).err());
-    asks([Room(reader::CONTROL)], |_, [control]| reader::switches(control.lent()).err());
-    let sizes = [Room(reader::CONTROL), Array(reader::MESSAGE), Room(reader::COPY)];
+    asks([Room(READER_CONTROL_SIZE)], |_, [control]| reader::on(control.lent()).err());
+    asks([Room(READER_CONTROL_SIZE)], |_, [control]| reader::power_up(control.lent()).err());
+    asks([Room(READER_CONTROL_SIZE)], |dice, [control]| reader::value(control.lent(), dice.byte()).err());
+    asks([Room(READER_CONTROL_SIZE)], |_, [control]| reader::switches(control.lent()).err());
+    let sizes = [Room(READER_CONTROL_SIZE), Array(MESSAGE_SIZE), Room(PACKET_SIZE)];
     asks(sizes, |dice, [control, message, copy]| {
         let size = dice.pick(&[0, 1, 300, 4_096, 4_097]);
         refused(reader::start(control.lent(), message.array(), copy.lent(), 0x1B, &dice.bytes(size)))
@@ -120,8 +136,8 @@ fn of_the_reader() {
 /// The last byte of a packet is refused for want of room, comes again, and brings the message.
 #[test]
 fn an_event_refused_is_not_taken() {
-    let (mut control, mut line, mut gather) = ([0; hub::CONTROL], [0; hub::LINE], [0; hub::MESSAGE]);
-    let (mut answer, mut message) = ([0; hub::ANSWER], [0; hub::MESSAGE]);
+    let (mut control, mut line, mut gather) = ([0; HUB_CONTROL_SIZE], [0; LINE_SIZE], [0; MESSAGE_SIZE]);
+    let (mut answer, mut message) = ([0; HUB_ANSWER_SIZE], [0; MESSAGE_SIZE]);
     let mut hear = |byte, size| {
         let told =
             hub::hear(&mut control, &mut line, &mut gather, &mut answer[..size], &mut message, Event::Byte(byte));

@@ -1,6 +1,7 @@
 //! The story of sample 8: the ACK of its packet is lost, the packet comes again, and the message has its one 8.
 
-use motikhund::packet::{check, HOST};
+use motikhund::constants::SOURCE_HOST;
+use motikhund::packet::check;
 use motikhund::{Event, Hub, HubTold, Outcome, Reader, ReaderTold};
 
 use crate::notation::{ack, events, hub_ack, hub_hears, reader_hears, sent};
@@ -46,7 +47,7 @@ fn the_hub_adds_the_8_once() {
 #[test]
 fn the_reader_sends_it_again() {
     let [first, last, again] = copies();
-    let answered = sent(&ack(HOST));
+    let answered = sent(&ack(SOURCE_HOST));
     let mut reader = Reader::new();
     assert_eq!(reader.start(0x1B, &card()), Outcome::Copy(&first));
     assert_eq!(reader_hears(&mut reader, &answered), ReaderTold::Sent(Outcome::Copy(&last)));

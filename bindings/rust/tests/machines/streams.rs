@@ -2,27 +2,27 @@
 
 use std::collections::VecDeque;
 
-use motikhund::packet::*;
+use motikhund::constants::*;
 use motikhund::Event;
 
 use crate::dice::Dice;
 use crate::notation::{packet, sent};
 
 const COMMANDS: [u8; 14] = [
-    PARAM_SEND,
-    PARAM_REQUEST,
-    PARAM_DEFAULTS,
-    BEEP,
-    LED_ON,
-    LED_OFF,
-    START_SESSION,
-    STOP_SESSION,
-    SCAN_ENABLE,
-    SCAN_DISABLE,
-    AIM_ON,
-    AIM_OFF,
-    CMD_ACK,
-    CMD_NAK,
+    OPCODE_PARAM_SEND,
+    OPCODE_PARAM_REQUEST,
+    OPCODE_PARAM_DEFAULTS,
+    OPCODE_BEEP,
+    OPCODE_LED_ON,
+    OPCODE_LED_OFF,
+    OPCODE_START_SESSION,
+    OPCODE_STOP_SESSION,
+    OPCODE_SCAN_ENABLE,
+    OPCODE_SCAN_DISABLE,
+    OPCODE_AIM_ON,
+    OPCODE_AIM_OFF,
+    OPCODE_CMD_ACK,
+    OPCODE_CMD_NAK,
 ];
 
 /// Numbers around those of the parameters, and FEh for all.
@@ -44,7 +44,7 @@ pub struct Stream {
 
 impl Stream {
     pub fn new(side: Side) -> Stream {
-        Stream { side, waiting: VecDeque::new(), last: (CMD_ACK, HOST, 0, Vec::new()) }
+        Stream { side, waiting: VecDeque::new(), last: (OPCODE_CMD_ACK, SOURCE_HOST, 0, Vec::new()) }
     }
 
     pub fn next(&mut self, dice: &mut Dice) -> Event {
@@ -85,15 +85,20 @@ impl Stream {
     /// The last packet, marked.
     fn again(&self) -> Vec<u8> {
         let (opcode, source, status, data) = &self.last;
-        packet(*opcode, *source, status | RESEND, data)
+        packet(*opcode, *source, status | STATUS_RESEND, data)
     }
 
     fn fresh(&mut self, dice: &mut Dice) -> Vec<u8> {
         let (opcode, source, status, data) = match self.side {
-            Side::Hub => (DECODE_DATA, READER, dice.pick(&[0, 0, MORE, MORE, MORE, RESEND]), piece(dice)),
+            Side::Hub => (
+                OPCODE_DECODE_DATA,
+                SOURCE_READER,
+                dice.pick(&[0, 0, STATUS_MORE, STATUS_MORE, STATUS_MORE, STATUS_RESEND]),
+                piece(dice),
+            ),
             Side::Reader => {
                 let opcode = dice.pick(&COMMANDS);
-                (opcode, HOST, dice.pick(&[0, 0, 0, RESEND, PERMANENT]), data(dice, opcode))
+                (opcode, SOURCE_HOST, dice.pick(&[0, 0, 0, STATUS_RESEND, STATUS_PERMANENT]), data(dice, opcode))
             }
         };
         let opcode = if dice.chance(4) { dice.byte() } else { opcode };
@@ -120,15 +125,15 @@ fn data(dice: &mut Dice, opcode: u8) -> Vec<u8> {
         return dice.bytes(size);
     }
     match opcode {
-        PARAM_SEND => {
+        OPCODE_PARAM_SEND => {
             let beep = if dice.chance(70) { 0xFF } else { dice.byte() % 0x20 };
             let pairs = (0..dice.below(3)).flat_map(|_| [dice.pick(&NUMBERS[..5]), dice.byte() % 3]).collect();
             [vec![beep], pairs].concat()
         }
-        PARAM_REQUEST => (0..dice.below(4)).map(|_| dice.pick(&NUMBERS)).collect(),
-        BEEP => vec![dice.byte() % 0x20],
-        LED_ON | LED_OFF => vec![dice.byte()],
-        CMD_NAK => vec![dice.pick(&[1, 1, 2, 6])],
+        OPCODE_PARAM_REQUEST => (0..dice.below(4)).map(|_| dice.pick(&NUMBERS)).collect(),
+        OPCODE_BEEP => vec![dice.byte() % 0x20],
+        OPCODE_LED_ON | OPCODE_LED_OFF => vec![dice.byte()],
+        OPCODE_CMD_NAK => vec![dice.pick(&[1, 1, 2, 6])],
         _ => Vec::new(),
     }
 }

@@ -1,6 +1,7 @@
 //! The hub's end of the line.
 
-use motikhund::lent::hub::{self, ANSWER, CONTROL, LINE, MESSAGE};
+use motikhund::constants::{HUB_ANSWER_SIZE, HUB_CONTROL_SIZE, LINE_SIZE, MESSAGE_SIZE};
+use motikhund::lent::hub;
 use motikhund::{Event, HubTold};
 
 use crate::lines::Lines;
@@ -8,19 +9,20 @@ use crate::notation::{size, End, Token, ROOM};
 
 /// A hub with an answer room of any size.
 pub struct Hub {
-    control: [u8; CONTROL],
-    line: [u8; LINE],
-    gather: [u8; MESSAGE],
+    control: [u8; HUB_CONTROL_SIZE],
+    line: [u8; LINE_SIZE],
+    gather: [u8; MESSAGE_SIZE],
     answer: Vec<u8>,
-    message: [u8; MESSAGE],
+    message: [u8; MESSAGE_SIZE],
 }
 
 impl Hub {
     pub fn new() -> Self {
-        let mut control = [0; CONTROL];
+        let mut control = [0; HUB_CONTROL_SIZE];
         // The control bytes have their size, so nothing is refused.
         let _ = hub::on(&mut control);
-        Hub { control, line: [0; LINE], gather: [0; MESSAGE], answer: vec![0; ANSWER], message: [0; MESSAGE] }
+        let (line, gather, message) = ([0; LINE_SIZE], [0; MESSAGE_SIZE], [0; MESSAGE_SIZE]);
+        Hub { control, line, gather, answer: vec![0; HUB_ANSWER_SIZE], message }
     }
 
     fn lend(&mut self, bytes: &[u8], _: &mut Lines) {

@@ -1,33 +1,50 @@
 //! The reader's end of the line.
 
-use motikhund::lent::reader::{self, ANSWER, CONTROL, COPY, LINE, MESSAGE};
+use motikhund::constants::*;
+use motikhund::lent::reader;
 use motikhund::{Event, Outcome, ReaderTold};
 
 use crate::lines::Lines;
 use crate::notation::{size, End, Form, Further, Token, ROOM};
 
 /// The parameters' numbers, rising.
-const NUMBERS: [u8; 9] = [0x80, 0x89, 0x8A, 0x9B, 0x9C, 0x9E, 0x9F, 0xED, 0xEE];
+const NUMBERS: [u8; 9] = [
+    PARAMETER_POWER_MODE,
+    PARAMETER_SAME_SYMBOL_TIME,
+    PARAMETER_TRIGGER,
+    PARAMETER_RESPONSE_TIME_OUT,
+    PARAMETER_BAUD,
+    PARAMETER_PARITY,
+    PARAMETER_ACK_NAK,
+    PARAMETER_AIM_DURATION,
+    PARAMETER_PACKETED_DATA,
+];
 
 /// `S tt bb .. ;`: the code type, and one byte more than the longest message has, so that a longer one is refused.
-const START: Form = Form { letter: b'S', least: 1, most: 1 + MESSAGE + 1, further: Further::Dropped };
+const START: Form = Form { letter: b'S', least: 1, most: 1 + MESSAGE_SIZE + 1, further: Further::Dropped };
 
 /// A reader with an answer room of any size. Its control bytes have their size, so no call refuses them.
 pub struct Reader {
-    control: [u8; CONTROL],
-    line: [u8; LINE],
-    answers: [u8; ANSWER],
-    message: [u8; MESSAGE],
+    control: [u8; READER_CONTROL_SIZE],
+    line: [u8; LINE_SIZE],
+    answers: [u8; READER_ANSWER_SIZE],
+    message: [u8; MESSAGE_SIZE],
     answer: Vec<u8>,
-    copy: [u8; COPY],
+    copy: [u8; PACKET_SIZE],
 }
 
 impl Reader {
     pub fn new() -> Self {
-        let mut control = [0; CONTROL];
+        let mut control = [0; READER_CONTROL_SIZE];
         let _ = reader::on(&mut control);
-        let (line, message) = ([0; LINE], [0; MESSAGE]);
-        Reader { control, line, answers: [0; ANSWER], message, answer: vec![0; ANSWER], copy: [0; COPY] }
+        Reader {
+            control,
+            line: [0; LINE_SIZE],
+            answers: [0; READER_ANSWER_SIZE],
+            message: [0; MESSAGE_SIZE],
+            answer: vec![0; READER_ANSWER_SIZE],
+            copy: [0; PACKET_SIZE],
+        }
     }
 
     fn time_out(&mut self, lines: &mut Lines) {
@@ -69,11 +86,11 @@ impl End for Reader {
             ReaderTold::Nothing | ReaderTold::Repeated { .. } => {}
             ReaderTold::Refused { why, .. } => lines.refusal(why),
             ReaderTold::Acted { beep, .. } => {
-                if let Some(row) = beep {
-                    lines.numbers(b'B', [row.duration, row.pitch, row.number].map(usize::from));
+                if let Some(beep) = beep {
+                    lines.numbers(b'B', [beep.duration, beep.pitch, beep.count].map(usize::from));
                 }
                 let on = reader::switches(control).unwrap_or_default();
-                lines.numbers(b'G', [on.enabled, on.session, on.aim, on.led].map(usize::from));
+                lines.numbers(b'G', [on.scanning, on.session, on.aim, on.led].map(usize::from));
             }
             ReaderTold::Sent(outcome) => sent(outcome, lines),
         }

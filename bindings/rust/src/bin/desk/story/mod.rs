@@ -2,7 +2,8 @@
 
 mod play;
 
-use motikhund::packet::{check, CMD_ACK, DECODE_DATA, READER, RESEND};
+use motikhund::constants::{OPCODE_CMD_ACK, OPCODE_DECODE_DATA, SOURCE_READER, STATUS_RESEND};
+use motikhund::packet::check;
 
 use play::{piece, play, Played, Sent};
 
@@ -58,18 +59,18 @@ status (01 resend, 02 more to come); the data, here the kind of code (1B) and ch
 
 /// Marked copies are not new, nor are answers.
 fn is_new_piece(sent: &Sent) -> bool {
-    check(&sent.packet).is_ok_and(|head| head.opcode == DECODE_DATA && head.status & RESEND == 0)
+    check(&sent.packet).is_ok_and(|head| head.opcode == OPCODE_DECODE_DATA && head.status & STATUS_RESEND == 0)
 }
 
 /// The bytes of a packet, and below them what they mean.
 fn packet(sent: &Sent, number: &str) -> String {
     let Ok(head) = check(&sent.packet) else { return String::new() };
-    let who = if head.source == READER { "reader" } else { "hub" };
+    let who = if head.source == SOURCE_READER { "reader" } else { "hub" };
     let bytes: Vec<String> = sent.packet.iter().map(|byte| format!("{byte:02X}")).collect();
     let characters: Vec<String> = piece(&sent.packet).iter().map(|byte| char::from(*byte).to_string()).collect();
     let meaning = match head.opcode {
-        CMD_ACK => "ACK".into(),
-        _ if head.status & RESEND == 0 => format!("{number}: \"{}\"", shortened(&characters, "")),
+        OPCODE_CMD_ACK => "ACK".into(),
+        _ if head.status & STATUS_RESEND == 0 => format!("{number}: \"{}\"", shortened(&characters, "")),
         _ => format!("{number} again, marked as a resend: \"{}\"", shortened(&characters, "")),
     };
     let fate = if sent.lost { ", lost on the way: the reader does not hear it" } else { "" };

@@ -37,6 +37,7 @@ pub fn play(card: &[u8]) -> Played {
         for event in events(&packet) {
             let told = hub.hear(event);
             answer.extend(told.answer());
+            // Filed before the answer goes out: nothing here takes longer than the reader waits.
             if let HubTold::Message { message, .. } = told {
                 played.filed.extend(message);
             }
