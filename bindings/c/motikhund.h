@@ -15,11 +15,11 @@
 // all buffers, and short functions work on them. bindings/c/example.c is a whole program. To build from the root of
 // the repository:
 //
-//     gcc -std=c11 -I bindings/c firmware.c target/staticlib/libexports.a
+//     gcc -std=c11 -I bindings/c firmware.c target/staticlib/libmotikhund.a
 //
 // The archive is for x86-64 and needs no other library. No call allocates, waits, or keeps anything between calls,
 // so machines may be used side by side in threads, each machine by one thread at a time. Each call is proved
-// (crates/exports) to end and to read and write only what it is lent, whatever bytes stand there. Only this is left
+// (crates/motikhund) to end and to read and write only what it is lent, whatever bytes stand there. Only this is left
 // to you, as C cannot say it: every pointer is valid for the length given with it, or for the number in its
 // brackets, and is not NULL, even for a length of 0; and the buffers that one call is lent do not overlap.
 //

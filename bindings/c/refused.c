@@ -237,7 +237,7 @@ static void test_packet_refusals(void)
 
 // ---- control values
 
-// Where their parts stand (crates/exports/specs/Control.antt). A number has eight bytes, low byte first.
+// Where their parts stand (crates/motikhund/specs/Control.antt). A number has eight bytes, low byte first.
 enum {
     LINE_COUNT = 0, // of framer, hub and reader: the bytes of the packet begun
     LINE_DEAF = 8,

@@ -2,7 +2,7 @@
 //!
 //! Why it is sound (the rule that each SAFETY comment names): every pointer comes from a reference that lives through
 //! the call, with the slice's own length; `&mut` says that no two of them overlap. The library takes any bytes, and
-//! reads and writes only what it is lent; that is proved of it in `crates/exports`. It keeps no pointer.
+//! reads and writes only what it is lent; that is proved of it in `crates/motikhund`. It keeps no pointer.
 //!
 //! Each gives the library's number, and the values that were told with it.
 

@@ -1,5 +1,5 @@
 //! The library's calls as they stand in the archive. Each takes its slices as a pointer and a length; a fixed array is
-//! a pointer alone. What each promises is proved where it is written, in `crates/exports`: it reads and writes only
+//! a pointer alone. What each promises is proved where it is written, in `crates/motikhund`: it reads and writes only
 //! what it is lent, whatever the bytes in it are, and gives 0, a refusal's number, or a number of 100 and above.
 //! [`constants`](crate::constants) has their names.
 

@@ -12,7 +12,7 @@ use crate::notation::{bytes, events, nak};
 use crate::refusals::{Case, HUB_CASES, READER_CASES};
 use crate::rooms::lends;
 
-// Where the parts of a control value stand (crates/exports/specs/Control.antt).
+// Where the parts of a control value stand (crates/motikhund/specs/Control.antt).
 const COUNT: usize = 0;
 const DEAF: usize = 8;
 const SECOND: usize = 9;

@@ -1,0 +1,316 @@
+-- What each exported call leaves, from what the library's call and the two translations promise. Assumes nothing.
+use Prim.Native.Nat.{ℕ, _≤_}
+use mathlib.Core.Path.{_≡_, refl, sym, _∙_}
+use mathlib.Core.Bool.{Bool, true, false}
+use mathlib.Core.List.{List, [], _∷_}
+use native.Mathlib.Omega.{arith}
+use lib.ListN.{length, drop}
+use Rattle.words.specs.Lists.{Wide, over}
+use Rattle.words.proofs.Lists.{never}
+use Rattle.packet.specs.declared.Refusal.{Refusal}
+use Rattle.packet.specs.Promises as packet
+use Rattle.packet.specs.Sizes.{packetSize, messageSize}
+use Rattle.packet.specs.declared.Checked.{Checked}
+use Rattle.packet.specs.declared.Reply.{Reply}
+use Rattle.packet.specs.declared.Built.{Built}
+use Rattle.framer.specs.Promises as framing
+use Rattle.framer.specs.declared.Event.{Event}
+use Rattle.framer.specs.declared.Framer.{Framer}
+use Rattle.framer.specs.declared.Framed.{Framed}
+use Rattle.hub.specs.Promises as joining
+use Rattle.hub.specs.declared.Hub.{Hub}
+use Rattle.hub.specs.declared.Taken.{Taken}
+use Rattle.hub.specs.declared.Going.{Going}
+use Rattle.hub.specs.declared.Going.the-variants.{On, Left}
+use Rattle.hub.proofs.Short.{going-hears, going-left}
+use Rattle.packet.specs.Opcodes.{host}
+use Rattle.sender.specs.Promises as sending
+use Rattle.sender.specs.declared.Heard.{Heard}
+use Rattle.sender.specs.declared.Sender.{Sender}
+use Rattle.sender.specs.declared.Sending.{Sending}
+use Rattle.sender.specs.declared.Outcome.{Outcome}
+use Rattle.sender.specs.declared.Outcome.the-variants as outcome
+use Rattle.sender.proofs.Refusing as refusing
+use Rattle.reader.proofs.Refusing as reader-refusing
+use Rattle.table.specs.Promises as settings
+use Rattle.table.specs.declared.Table.{Table}
+use Rattle.reader.specs.Promises as reading
+use Rattle.reader.specs.declared.Reader.{Reader}
+use Rattle.reader.specs.declared.Taken.{Taken as Commanded}
+use Rattle.reader.specs.declared.Started.{Started}
+use Rattle.motikhund.specs.Lent.{Need, atLeast, Lacking, here, there, Enough, none, more, Asks, KeptUnless, Kept, Made}
+use Rattle.motikhund.specs.Control.{framerIn, framerBytes, hubIn, hubBytes, senderIn, senderBytes, readerIn, readerBytes, FramerIn, PutsFramer, HubIn, PutsHub, SenderIn, PutsSender, ReaderIn, PutsReader, Switches}
+use Rattle.motikhund.specs.Numbers.{noHead, EventOf, HeardOf, HeardNumber, ReplyOf, CheckedNumber, CheckedValues, FoundNumber, FoundValues, BuiltNumber, HubNumber, HubValues, OutcomeNumber, OutcomeValue, isRefused, OutcomeRefused, waitsNumber, ReaderNumber, ReaderValues}
+use Rattle.motikhund.specs.Promises.{PacketChecks, PacketBuilds, PacketAnswers, FramerHears, HubHears, HubTakes, HubGoesOn, Brings, SenderStarts, SenderHears, SenderWaits, SenderHeeds, FreshReader, ReaderStarts, ReaderTimesOut, ReaderHears, ReaderValue, ReaderSwitches}
+use Rattle.motikhund.proofs.Reading.{framer-back, hub-back, sender-back, reader-back}
+
+-- ---- what is lent
+
+-- Not both.
+lacking-enough : {needs : List Need} → Lacking needs → Enough needs → ⊥
+lacking-enough (here h) (more l e) = omega arith
+lacking-enough (there k) (more l e) = lacking-enough k e
+
+module _ {needs : List Need} {Refuses Takes : Type 0} where
+  asks-13 : Lacking needs → Refuses → Asks needs Refuses Takes
+  asks-13 k r = record { refuses = λ _. r; takes = λ e. absurd (lacking-enough k e) }
+
+  asks-enough : Enough needs → Takes → Asks needs Refuses Takes
+  asks-enough e t = record { refuses = λ k. absurd (lacking-enough k e); takes = λ _. t }
+
+-- ---- control values that were written
+
+framer-kept : {f : Framer} {control control′ : List ℕ} → PutsFramer f control control′ → Kept framerIn framerBytes f control control′
+unfolding over
+framer-kept {f} {control} k = record { control-is = k .is; reads = rw (k .is) (framer-back f (drop (length (framerBytes f)) control) (k .small)) }
+
+hub-kept : {h : Hub} {control control′ : List ℕ} → PutsHub h control control′ → Kept hubIn hubBytes h control control′
+unfolding over
+hub-kept {h} {control} k = record { control-is = k .is; reads = rw (k .is) (hub-back h (drop (length (hubBytes h)) control) (k .small)) }
+
+sender-kept : {s : Sender} {control control′ : List ℕ} → PutsSender s control control′ → Kept senderIn senderBytes s control control′
+unfolding over
+sender-kept {s} {control} k = record { control-is = k .is; reads = rw (k .is) (sender-back s (drop (length (senderBytes s)) control) (k .small)) }
+
+reader-kept : {r : Reader} {control control′ : List ℕ} → PutsReader r control control′ → Kept readerIn readerBytes r control control′
+unfolding over
+reader-kept {r} {control} k = record { control-is = k .is; reads = rw (k .is) (reader-back r (drop (length (readerBytes r)) control) (k .small)) }
+
+-- What a start leaves: nothing is put back where it was refused.
+refused-named : {P : Type 0} (o : Outcome) → isRefused o ≡ true → ((x : Refusal) → o ≡ outcome.Refused x → P) → P
+refused-named outcome.Nothing e k = never (cc)
+refused-named (outcome.Copy size) e k = never (cc)
+refused-named (outcome.Delivered copies) e k = never (cc)
+refused-named (outcome.Failed copies) e k = never (cc)
+refused-named (outcome.Refused x) e k = k x refl
+
+alone : {C : Type 0} {read : List ℕ → C} {bytes : C → List ℕ} {value before : C} {control : List ℕ} {refused : Bool} → refused ≡ true → before ≡ read control → value ≡ before →
+    KeptUnless refused read bytes value control control
+alone e before-is same = record { control-is = simp e; reads = sym (same ∙ before-is) }
+
+put-back : {C : Type 0} {read : List ℕ → C} {bytes : C → List ℕ} {value : C} {control control′ : List ℕ} {refused : Bool} → refused ≡ false →
+    Kept read bytes value control control′ → KeptUnless refused read bytes value control control′
+put-back e k = record { control-is = k .control-is ∙ simp e; reads = k .reads }
+
+brings : {o : Outcome} {r value : ℕ} → OutcomeValue o value → OutcomeNumber o r → Brings o r value
+brings value told = record { told = told .is; value-is = value .is }
+
+-- ---- calls that make a control value
+
+pub made-13 : {C : Type 0} {size : ℕ} {read : List ℕ → C} {bytes : C → List ℕ} {P : C → Type 0} {control : List ℕ} → Lacking (atLeast size control ∷ []) →
+    Made size read bytes P control 13 control
+made-13 k = record { asks = asks-13 k (refl, refl) }
+
+made : {C : Type 0} {size : ℕ} {read : List ℕ → C} {bytes : C → List ℕ} {P : C → Type 0} {value : C} {control control′ : List ℕ} → size ≤ length control → P value →
+    Kept read bytes value control control′ → Made size read bytes P control 0 control′
+made {value = value} l p k = record { asks = asks-enough (more l none) (record { made = value; promise = p; told = refl; kept = k }) }
+
+pub framer-made : {f : Framer} {control control′ : List ℕ} → 9 ≤ length control → framing.Idle f → PutsFramer f control control′ →
+    Made 9 framerIn framerBytes framing.Idle control 0 control′
+framer-made l idle put = made l idle (framer-kept put)
+
+pub hub-made : {h : Hub} {control control′ : List ℕ} → 29 ≤ length control → joining.SwitchedOn h → PutsHub h control control′ →
+    Made 29 hubIn hubBytes joining.SwitchedOn control 0 control′
+hub-made l on put = made l on (hub-kept put)
+
+pub sender-made : {failed : Bool} {s : Sender} {control control′ : List ℕ} → 35 ≤ length control → sending.Idle failed s → PutsSender s control control′ →
+    Made 35 senderIn senderBytes (sending.Idle failed) control 0 control′
+sender-made l idle put = made l idle (sender-kept put)
+
+pub reader-made : {t : Table} {r : Reader} {control control′ : List ℕ} → 83 ≤ length control → settings.Defaults t → reading.SwitchedOn t r → PutsReader r control control′ →
+    Made 83 readerIn readerBytes FreshReader control 0 control′
+reader-made {t} l defaults on put = made l (record { table = t; defaults = defaults; switched = on }) (reader-kept put)
+
+pub reader-woken : {before r : Reader} {control control′ : List ℕ} → 83 ≤ length control → ReaderIn control before → reading.PowersUp before r → PutsReader r control control′ →
+    Made 83 readerIn readerBytes (reading.PowersUp (readerIn control)) control 0 control′
+reader-woken l before-is powers put = made l (rw (before-is .is) at powers) (reader-kept put)
+
+-- ---- the packet
+
+pub packet-checks : {s head : List ℕ} {r : ℕ} {found : Checked} → packet.Check s found → CheckedNumber found r → CheckedValues found head → PacketChecks s r head
+packet-checks {found = found} checks told values = record { found = found; checks = checks; told = told .is; values = values .is }
+
+pub packet-builds : {room carried room′ : List ℕ} {opcode source status r size : ℕ} {made : Built} → packet.Build room opcode source status carried made room′ →
+    BuiltNumber made r → packet.SizeOf made size → PacketBuilds room opcode source status carried r room′ size
+packet-builds {made = made} builds told value = record { made = made; builds = builds; told = told .is; value = value .is }
+
+pub packet-answers : {room room′ : List ℕ} {source n r size : ℕ} {reply : Reply} {made : Built} → ReplyOf n reply → packet.Answer room source reply made room′ →
+    BuiltNumber made r → packet.SizeOf made size → PacketAnswers room source n r room′ size
+packet-answers {made = made} reply answers told value = record { made = made; answers = rw (reply .is) at answers; told = told .is; value = value .is }
+
+-- ---- the framer
+
+pub framer-13 : {control line : List ℕ} {n : ℕ} → Lacking (atLeast 9 control ∷ atLeast packetSize line ∷ []) → FramerHears control line n 13 control line noHead
+framer-13 k = record { asks = asks-13 k (refl, refl, refl, refl) }
+
+pub framer-hears : {control line control′ line′ head : List ℕ} {n r : ℕ} {f : Framer} {e : Event} {framed : Framed} →
+    9 ≤ length control →
+    packetSize ≤ length line →
+    FramerIn control f →
+    EventOf n e →
+    framing.Frames f line e framed line′ →
+    PutsFramer (framed .framer) control control′ →
+    FoundValues (framed .found) head →
+    FoundNumber (framed .found) r →
+    FramerHears control line n r control′ line′ head
+framer-hears {framed = framed} c l before-is event frames put values told =
+    record {
+      asks =
+          asks-enough (more c (more l none))
+          (record { framed = framed; frames = rw (before-is .is, event .is) at frames; told = told .is; values = values .is; kept = framer-kept put });
+    }
+
+-- ---- the hub
+
+pub hub-13 : {control line gather answer message : List ℕ} {n : ℕ} → Lacking (atLeast 29 control ∷ atLeast joining.hubAnswerSize answer ∷ atLeast messageSize message ∷ []) →
+    HubHears control line gather answer message n 13 control line gather answer message (0 ∷ 0 ∷ 0 ∷ [])
+hub-13 k = record { asks = asks-13 k (refl, refl, refl, refl, refl, refl, refl) }
+
+module _ {control : List ℕ} {n : ℕ} {hub : Hub} {e : Event} (before-is : HubIn control hub) (event : EventOf n e) where
+  pub hub-takes : {line gather answer message control′ line′ gather′ answer′ message′ values : List ℕ} {r : ℕ} {taken : Taken} →
+      joining.Hears hub line gather answer message e taken line′ gather′ answer′ message′ →
+      PutsHub (taken .hub) control control′ →
+      HubValues (taken .told) (taken .answer) values →
+      HubNumber (taken .told) r →
+      HubTakes control line gather answer message n r control′ line′ gather′ answer′ message′ values
+  hub-takes {taken = taken} hears put values told =
+      record { taken = taken; hears = rw (before-is .is, event .is) at hears; told = told .is; values-are = values .is; kept = hub-kept put }
+
+  module _ {line line₁ gather answer message : List ℕ} {going : Going} (c : 29 ≤ length control) (a : joining.hubAnswerSize ≤ length answer) (m : messageSize ≤ length message)
+      (goes : joining.GoesOn hub line e going line₁) where
+    pub hub-goes-on : {next : Hub} {control′ values : List ℕ} {r : ℕ} → going ≡ On next → HubGoesOn next gather control r control′ values →
+        HubHears control line gather answer message n r control′ line₁ gather answer message values
+    hub-goes-on q k =
+        record {
+          asks =
+              asks-enough (more c (more a (more m none)))
+              (hub-takes (going-hears goes q (k .long) a m) (k .puts) (record { is = k .values-are }) (record { is = k .told }));
+        }
+
+    pub hub-hears : {control′ line′ gather′ answer′ message′ values : List ℕ} {r : ℕ} → going ≡ Left →
+        HubTakes control line₁ gather answer message n r control′ line′ gather′ answer′ message′ values →
+        HubHears control line gather answer message n r control′ line′ gather′ answer′ message′ values
+    hub-hears q k = record { asks = asks-enough (more c (more a (more m none))) (rw (going-left goes q) at k) }
+
+-- ---- the sender
+
+pub start-13 : {control buffer room message : List ℕ} {code : ℕ} → Lacking (atLeast 35 control ∷ atLeast 257 room ∷ []) →
+    SenderStarts control buffer room code message 13 control buffer room 0
+start-13 k = record { asks = asks-13 k (refl, refl, refl, refl, refl) }
+
+module _ {control buffer room message buffer′ room′ : List ℕ} {code value : ℕ} {s : Sender} {sent : Sending} {refused : Bool} (c : 35 ≤ length control) (l : 257 ≤ length room)
+    (before-is : SenderIn control s) (starts : sending.Starts s buffer room code message sent buffer′ room′) (value-is : OutcomeValue (sent .outcome) value)
+    (is-refused : OutcomeRefused (sent .outcome) refused) where
+  start-leaves : {control′ : List ℕ} {r : ℕ} → KeptUnless (isRefused (sent .outcome)) senderIn senderBytes (sent .sender) control control′ → OutcomeNumber (sent .outcome) r →
+      SenderStarts control buffer room code message r control′ buffer′ room′ value
+  start-leaves kept told =
+      record { asks = asks-enough (more c (more l none)) (record { sent = sent; starts = rw (before-is .is) at starts; brings = brings value-is told; kept = kept }) }
+
+  pub sender-refuses : {r : ℕ} → refused ≡ true → OutcomeNumber (sent .outcome) r → SenderStarts control buffer room code message r control buffer′ room′ value
+  sender-refuses e told =
+      let f = sym (is-refused .is) ∙ e in
+      start-leaves (alone f (before-is .is) (refused-named (sent .outcome) f (λ x q. refusing.start-refuses starts q .control-same))) told
+
+  pub sender-starts : {control′ : List ℕ} {r : ℕ} → refused ≡ false → PutsSender (sent .sender) control control′ → OutcomeNumber (sent .outcome) r →
+      SenderStarts control buffer room code message r control′ buffer′ room′ value
+  sender-starts e put told = start-leaves (put-back (sym (is-refused .is) ∙ e) (sender-kept put)) told
+
+pub hear-13 : {control buffer room : List ℕ} {n : ℕ} → Lacking (atLeast 35 control ∷ atLeast 257 room ∷ []) → SenderHears control buffer room n 13 control room 0
+hear-13 k = record { asks = asks-13 k (refl, refl, refl, refl) }
+
+pub sender-hears : {control buffer room control′ room′ : List ℕ} {n r value : ℕ} {s : Sender} {h : Heard} {sent : Sending} →
+    35 ≤ length control →
+    257 ≤ length room →
+    SenderIn control s →
+    HeardOf n h →
+    sending.Hears s buffer room h sent room′ →
+    PutsSender (sent .sender) control control′ →
+    OutcomeValue (sent .outcome) value →
+    OutcomeNumber (sent .outcome) r →
+    SenderHears control buffer room n r control′ room′ value
+sender-hears {sent = sent} c l before-is heard hears put value told =
+    record { asks = asks-enough (more c (more l none)) (record { sent = sent; hears = rw (before-is .is, heard .is) at hears; brings = brings value told; kept = sender-kept put }) }
+
+pub waits-13 : {control : List ℕ} → Lacking (atLeast 35 control ∷ []) → SenderWaits control 13
+waits-13 k = record { asks = asks-13 k refl }
+
+pub sender-waits : {control : List ℕ} {s : Sender} {out : Bool} {r : ℕ} → 35 ≤ length control → SenderIn control s → sending.Waits s out → r ≡ waitsNumber out →
+    SenderWaits control r
+sender-waits {out = out} c before-is waits e = record { asks = asks-enough (more c none) (record { out = out; waits = rw (before-is .is) at waits; told = e }) }
+
+pub sender-heeds : {opcode source status r : ℕ} {carried : List ℕ} {h : Heard} → sending.Heeds host opcode source status carried h → HeardNumber h r →
+    SenderHeeds opcode source status carried r
+sender-heeds {h = h} heeds told = record { heard = h; heeds = heeds; told = told .is }
+
+-- ---- the reader
+
+pub reader-start-13 : {control message copy bytes : List ℕ} {code : ℕ} → Lacking (atLeast 83 control ∷ atLeast 257 copy ∷ []) →
+    ReaderStarts control message copy code bytes 13 control message copy 0
+reader-start-13 k = record { asks = asks-13 k (refl, refl, refl, refl, refl) }
+
+module _ {control message copy bytes message′ copy′ : List ℕ} {code value : ℕ} {before : Reader} {started : Started} {refused : Bool} (c : 83 ≤ length control) (l : 257 ≤ length copy)
+    (before-is : ReaderIn control before) (starts : reading.Starts before message copy code bytes started message′ copy′) (value-is : OutcomeValue (started .outcome) value)
+    (is-refused : OutcomeRefused (started .outcome) refused) where
+  reader-start-leaves : {control′ : List ℕ} {r : ℕ} → KeptUnless (isRefused (started .outcome)) readerIn readerBytes (started .reader) control control′ →
+      OutcomeNumber (started .outcome) r → ReaderStarts control message copy code bytes r control′ message′ copy′ value
+  reader-start-leaves kept told =
+      record { asks = asks-enough (more c (more l none)) (record { started = started; starts = rw (before-is .is) at starts; brings = brings value-is told; kept = kept }) }
+
+  pub reader-refuses : {r : ℕ} → refused ≡ true → OutcomeNumber (started .outcome) r → ReaderStarts control message copy code bytes r control message′ copy′ value
+  reader-refuses e told =
+      let f = sym (is-refused .is) ∙ e in
+      reader-start-leaves (alone f (before-is .is) (refused-named (started .outcome) f (λ x q. reader-refusing.start-refuses starts q .control-same))) told
+
+  pub reader-starts : {control′ : List ℕ} {r : ℕ} → refused ≡ false → PutsReader (started .reader) control control′ → OutcomeNumber (started .outcome) r →
+      ReaderStarts control message copy code bytes r control′ message′ copy′ value
+  reader-starts e put told = reader-start-leaves (put-back (sym (is-refused .is) ∙ e) (reader-kept put)) told
+
+pub time-out-13 : {control message copy : List ℕ} → Lacking (atLeast 83 control ∷ atLeast 257 copy ∷ []) → ReaderTimesOut control message copy 13 control copy 0
+time-out-13 k = record { asks = asks-13 k (refl, refl, refl, refl) }
+
+pub reader-times-out : {control message copy control′ copy′ : List ℕ} {r value : ℕ} {before : Reader} {started : Started} →
+    83 ≤ length control →
+    257 ≤ length copy →
+    ReaderIn control before →
+    reading.TimesOut before message copy started copy′ →
+    PutsReader (started .reader) control control′ →
+    OutcomeValue (started .outcome) value →
+    OutcomeNumber (started .outcome) r →
+    ReaderTimesOut control message copy r control′ copy′ value
+reader-times-out {started = started} c l before-is times put value told =
+    record { asks = asks-enough (more c (more l none)) (record { started = started; times = rw (before-is .is) at times; brings = brings value told; kept = reader-kept put }) }
+
+pub reader-13 : {control line answers message answer copy : List ℕ} {n : ℕ} → Lacking (atLeast 83 control ∷ atLeast 25 answer ∷ atLeast 257 copy ∷ []) →
+    ReaderHears control line answers message answer copy n 13 control line answers answer copy (0 ∷ 0 ∷ 0 ∷ 0 ∷ 0 ∷ 0 ∷ [])
+reader-13 k = record { asks = asks-13 k (refl, refl, refl, refl, refl, refl, refl) }
+
+pub reader-hears : {control line answers message answer copy control′ line′ answers′ answer′ copy′ values : List ℕ} {n r : ℕ} {before : Reader} {e : Event} {taken : Commanded} →
+    83 ≤ length control →
+    25 ≤ length answer →
+    257 ≤ length copy →
+    ReaderIn control before →
+    EventOf n e →
+    reading.Hears before line answers message answer copy e taken line′ answers′ answer′ copy′ →
+    PutsReader (taken .reader) control control′ →
+    ReaderValues (taken .told) (taken .answer) (taken .outcome) values →
+    ReaderNumber (taken .told) r →
+    ReaderHears control line answers message answer copy n r control′ line′ answers′ answer′ copy′ values
+reader-hears {taken = taken} c a l before-is event hears put values told =
+    record {
+      asks =
+          asks-enough (more c (more a (more l none)))
+          (record { taken = taken; hears = rw (before-is .is, event .is) at hears; told = told .is; values-are = values .is; kept = reader-kept put });
+    }
+
+pub value-13 : {control : List ℕ} {number : ℕ} → Lacking (atLeast 83 control ∷ []) → ReaderValue control number 13 0
+value-13 k = record { asks = asks-13 k (refl, refl) }
+
+pub reader-value : {control : List ℕ} {number shown value : ℕ} {before : Reader} → 83 ≤ length control → ReaderIn control before →
+    settings.Value (before .device .table) number shown → Wide shown value → ReaderValue control number 0 value
+reader-value c before-is shows wide = record { asks = asks-enough (more c none) (record { shows = rw (before-is .is, ← wide .is) at shows; told = refl }) }
+
+pub switches-13 : {control : List ℕ} → Lacking (atLeast 83 control ∷ []) → ReaderSwitches control 13 (0 ∷ 0 ∷ 0 ∷ 0 ∷ [])
+switches-13 k = record { asks = asks-13 k (refl, refl) }
+
+pub reader-switches : {control values : List ℕ} {before : Reader} → 83 ≤ length control → ReaderIn control before → Switches (before .device) values → ReaderSwitches control 0 values
+reader-switches c before-is switches = record { asks = asks-enough (more c none) (refl, switches .is ∙ rw (before-is .is) refl) }

@@ -1,0 +1,70 @@
+-- `motikhund::control::half` meets its contract: four bytes, low byte first. Assumes nothing.
+use Rattle.motikhund.proofs.Reading.{half-in}
+use borrow.Author.Needs.{needs}
+use Rattle.motikhund.proofs.control.half.Statement.{statement}
+use Rattle.motikhund.proofs.control.half.Tie as tie
+
+shared-slice-read-wide : tie.Need-shared-slice-read-wide
+shared-slice-read-wide c = search needs
+
+wide-requires : tie.Need-wide-requires
+wide-requires c κs = search needs
+
+shared-slice-read-wide-2 : tie.Need-shared-slice-read-wide-2
+shared-slice-read-wide-2 c = search needs
+
+wide-requires-2 : tie.Need-wide-requires-2
+wide-requires-2 c κs = search needs
+
+mul-low : tie.Need-mul-low
+mul-low c = search needs
+
+add-low : tie.Need-add-low
+add-low c = search needs
+
+shared-slice-read-wide-3 : tie.Need-shared-slice-read-wide-3
+shared-slice-read-wide-3 c = search needs
+
+wide-requires-3 : tie.Need-wide-requires-3
+wide-requires-3 c κs = search needs
+
+shared-slice-read-wide-4 : tie.Need-shared-slice-read-wide-4
+shared-slice-read-wide-4 c = search needs
+
+wide-requires-4 : tie.Need-wide-requires-4
+wide-requires-4 c κs = search needs
+
+mul-high : tie.Need-mul-high
+mul-high c = search needs
+
+add-high : tie.Need-add-high
+add-high c = search needs
+
+mul-result : tie.Need-mul-result
+mul-result c = search needs
+
+add-result : tie.Need-add-result
+add-result c = search needs
+
+returns : tie.Need-returns
+returns c = half-in (c .before .before .before .before .before .before .wide .ensures) (c .before .before .before .before .wide2 .ensures) (c .before .before .wide3 .ensures) (c .wide4 .ensures)
+
+pub half-spec : {M : Type 1} → statement M
+half-spec =
+    tie.close
+    (tie.spec
+    shared-slice-read-wide
+    wide-requires
+    shared-slice-read-wide-2
+    wide-requires-2
+    mul-low
+    add-low
+    shared-slice-read-wide-3
+    wide-requires-3
+    shared-slice-read-wide-4
+    wide-requires-4
+    mul-high
+    add-high
+    mul-result
+    add-result
+    returns)

@@ -1,0 +1,221 @@
+-- What each exported call promises. A control value under its size, or a room under what the call asks for, is number 13 with
+-- nothing changed. Else it is the library's call on what the bytes read as, with that call's own promise; what it told stands in
+-- numbers, and the control bytes afterwards are those of the control value that it left, or as they were where a start was refused.
+use Prim.Native.Nat.{ℕ}
+use mathlib.Core.Bool.{Bool}
+use mathlib.Core.List.{List, [], _∷_}
+use mathlib.Core.Path.{_≡_}
+use lib.ListN.{length}
+use Rattle.packet.specs.Opcodes.{host}
+use Rattle.packet.specs.Packet.{sizeOf}
+use Rattle.packet.specs.Promises as packet
+use Rattle.packet.specs.Sizes.{packetSize, messageSize}
+use Rattle.packet.specs.declared.Checked.{Checked}
+use Rattle.packet.specs.declared.Built.{Built}
+use Rattle.framer.specs.Promises as framing
+use Rattle.framer.specs.declared.Framed.{Framed}
+use Rattle.hub.specs.Promises as joining
+use Rattle.hub.specs.declared.Hub.{Hub}
+use Rattle.hub.specs.declared.Taken.{Taken}
+use Rattle.sender.specs.Promises as sending
+use Rattle.sender.specs.declared.Heard.{Heard}
+use Rattle.sender.specs.declared.Sending.{Sending}
+use Rattle.sender.specs.declared.Outcome.{Outcome}
+use Rattle.table.specs.Promises as settings
+use Rattle.table.specs.declared.Table.{Table}
+use Rattle.reader.specs.Reader.{readerAnswerSize}
+use Rattle.reader.specs.Promises as reading
+use Rattle.reader.specs.declared.Reader.{Reader}
+use Rattle.reader.specs.declared.Taken.{Taken as Commanded}
+use Rattle.reader.specs.declared.Started.{Started}
+use Rattle.motikhund.specs.Lent.{atLeast, Asks, KeptUnless, Kept, Made}
+use Rattle.motikhund.specs.Control.{framerControlSize, hubControlSize, senderControlSize, readerControlSize, framerIn, framerBytes, hubIn, hubBytes, PutsHub, senderIn, senderBytes, readerIn, readerBytes, switchValues}
+use Rattle.motikhund.specs.Numbers.{eventOf, heardOf, heardNumber, replyOf, noHead, checkedNumber, checkedValues, foundNumber, foundValues, builtNumber, hubNumber, hubValues, outcomeNumber, outcomeValue, isRefused, waitsNumber, readerNumber, readerValues}
+
+-- ---- the packet: each call asks for its own room
+
+pub record PacketChecks (s : List ℕ) (r : ℕ) (head : List ℕ) : Type 0 where
+  pub found : Checked
+  pub checks : packet.Check s found
+  pub told : r ≡ checkedNumber found
+  pub values : head ≡ checkedValues found
+
+pub record PacketBuilds (room : List ℕ) (opcode source status : ℕ) (carried : List ℕ) (r : ℕ) (room′ : List ℕ) (size : ℕ) : Type 0 where
+  pub made : Built
+  pub builds : packet.Build room opcode source status carried made room′
+  pub told : r ≡ builtNumber made
+  pub value : size ≡ sizeOf made
+
+pub record PacketAnswers (room : List ℕ) (source reply r : ℕ) (room′ : List ℕ) (size : ℕ) : Type 0 where
+  pub made : Built
+  pub answers : packet.Answer room source (replyOf reply) made room′
+  pub told : r ≡ builtNumber made
+  pub value : size ≡ sizeOf made
+
+-- ---- the framer
+
+abbrev pub FramerIdle : List ℕ → ℕ → List ℕ → Type 0
+FramerIdle control r control′ = Made framerControlSize framerIn framerBytes framing.Idle control r control′
+
+pub record FramerTakes (control line : List ℕ) (event r : ℕ) (control′ line′ head : List ℕ) : Type 0 where
+  pub framed : Framed
+  pub frames : framing.Frames (framerIn control) line (eventOf event) framed line′
+  pub told : r ≡ foundNumber (framed .found)
+  pub values : head ≡ foundValues (framed .found)
+  pub kept : Kept framerIn framerBytes (framed .framer) control control′
+
+pub record FramerHears (control line : List ℕ) (event r : ℕ) (control′ line′ head : List ℕ) : Type 0 where
+  pub asks :
+      Asks (atLeast framerControlSize control ∷ atLeast packetSize line ∷ [])
+      ((r ≡ 13) × (control′ ≡ control) × (line′ ≡ line) × (head ≡ noHead))
+      (FramerTakes control line event r control′ line′ head)
+
+-- ---- the hub
+
+abbrev pub HubOn : List ℕ → ℕ → List ℕ → Type 0
+HubOn control r control′ = Made hubControlSize hubIn hubBytes joining.SwitchedOn control r control′
+
+pub record HubTakes (control line gather answer message : List ℕ) (event r : ℕ) (control′ line′ gather′ answer′ message′ values : List ℕ) : Type 0 where
+  pub taken : Taken
+  pub hears : joining.Hears (hubIn control) line gather answer message (eventOf event) taken line′ gather′ answer′ message′
+  pub told : r ≡ hubNumber (taken .told)
+  pub values-are : values ≡ hubValues (taken .told) (taken .answer)
+  pub kept : Kept hubIn hubBytes (taken .hub) control control′
+
+pub record HubHears (control line gather answer message : List ℕ) (event r : ℕ) (control′ line′ gather′ answer′ message′ values : List ℕ) : Type 0 where
+  pub asks :
+      Asks (atLeast hubControlSize control ∷ atLeast joining.hubAnswerSize answer ∷ atLeast messageSize message ∷ [])
+      ((r ≡ 13)
+      × (control′ ≡ control)
+      × (line′ ≡ line)
+      × (gather′ ≡ gather)
+      × (answer′ ≡ answer)
+      × (message′ ≡ message)
+      × (values ≡ 0 ∷ 0 ∷ 0 ∷ []))
+      (HubTakes control line gather answer message event r control′ line′ gather′ answer′ message′ values)
+
+-- The short way: the control value put back, and nothing told.
+pub record HubGoesOn (hub : Hub) (gather control : List ℕ) (r : ℕ) (control′ values : List ℕ) : Type 0 where
+  pub puts : PutsHub hub control control′
+  pub told : r ≡ 0
+  pub values-are : values ≡ 0 ∷ 0 ∷ 0 ∷ []
+  pub long : length gather ≡ messageSize
+
+-- ---- the sender
+
+abbrev pub SenderIdle : List ℕ → Bool → ℕ → List ℕ → Type 0
+SenderIdle control failed r control′ = Made senderControlSize senderIn senderBytes (sending.Idle failed) control r control′
+
+-- What the sender brought, in numbers.
+pub record Brings (o : Outcome) (r value : ℕ) : Type 0 where
+  pub told : r ≡ outcomeNumber o
+  pub value-is : value ≡ outcomeValue o
+
+pub record SenderBegins (control buffer room : List ℕ) (code : ℕ) (message : List ℕ) (r : ℕ) (control′ buffer′ room′ : List ℕ) (value : ℕ) : Type 0 where
+  pub sent : Sending
+  pub starts : sending.Starts (senderIn control) buffer room code message sent buffer′ room′
+  pub brings : Brings (sent .outcome) r value
+  pub kept : KeptUnless (isRefused (sent .outcome)) senderIn senderBytes (sent .sender) control control′
+
+pub record SenderStarts (control buffer room : List ℕ) (code : ℕ) (message : List ℕ) (r : ℕ) (control′ buffer′ room′ : List ℕ) (value : ℕ) : Type 0 where
+  pub asks :
+      Asks (atLeast senderControlSize control ∷ atLeast packetSize room ∷ [])
+      ((r ≡ 13) × (control′ ≡ control) × (buffer′ ≡ buffer) × (room′ ≡ room) × (value ≡ 0))
+      (SenderBegins control buffer room code message r control′ buffer′ room′ value)
+
+pub record SenderTakes (control buffer room : List ℕ) (heard r : ℕ) (control′ room′ : List ℕ) (value : ℕ) : Type 0 where
+  pub sent : Sending
+  pub hears : sending.Hears (senderIn control) buffer room (heardOf heard) sent room′
+  pub brings : Brings (sent .outcome) r value
+  pub kept : Kept senderIn senderBytes (sent .sender) control control′
+
+pub record SenderHears (control buffer room : List ℕ) (heard r : ℕ) (control′ room′ : List ℕ) (value : ℕ) : Type 0 where
+  pub asks :
+      Asks (atLeast senderControlSize control ∷ atLeast packetSize room ∷ [])
+      ((r ≡ 13) × (control′ ≡ control) × (room′ ≡ room) × (value ≡ 0))
+      (SenderTakes control buffer room heard r control′ room′ value)
+
+pub record SenderOut (control : List ℕ) (r : ℕ) : Type 0 where
+  pub out : Bool
+  pub waits : sending.Waits (senderIn control) out
+  pub told : r ≡ waitsNumber out
+
+pub record SenderWaits (control : List ℕ) (r : ℕ) : Type 0 where
+  pub asks : Asks (atLeast senderControlSize control ∷ []) (r ≡ 13) (SenderOut control r)
+
+pub record SenderHeeds (opcode source status : ℕ) (carried : List ℕ) (r : ℕ) : Type 0 where
+  pub heard : Heard
+  pub heeds : sending.Heeds host opcode source status carried heard
+  pub told : r ≡ heardNumber heard
+
+-- ---- the reader
+
+-- Switched on with the house defaults.
+pub record FreshReader (r : Reader) : Type 0 where
+  pub table : Table
+  pub defaults : settings.Defaults table
+  pub switched : reading.SwitchedOn table r
+
+abbrev pub ReaderOn : List ℕ → ℕ → List ℕ → Type 0
+ReaderOn control r control′ = Made readerControlSize readerIn readerBytes FreshReader control r control′
+
+abbrev pub ReaderPowersUp : List ℕ → ℕ → List ℕ → Type 0
+ReaderPowersUp control r control′ = Made readerControlSize readerIn readerBytes (reading.PowersUp (readerIn control)) control r control′
+
+pub record ReaderBegins (control message copy : List ℕ) (code : ℕ) (bytes : List ℕ) (r : ℕ) (control′ message′ copy′ : List ℕ) (value : ℕ) : Type 0 where
+  pub started : Started
+  pub starts : reading.Starts (readerIn control) message copy code bytes started message′ copy′
+  pub brings : Brings (started .outcome) r value
+  pub kept : KeptUnless (isRefused (started .outcome)) readerIn readerBytes (started .reader) control control′
+
+pub record ReaderStarts (control message copy : List ℕ) (code : ℕ) (bytes : List ℕ) (r : ℕ) (control′ message′ copy′ : List ℕ) (value : ℕ) : Type 0 where
+  pub asks :
+      Asks (atLeast readerControlSize control ∷ atLeast packetSize copy ∷ [])
+      ((r ≡ 13) × (control′ ≡ control) × (message′ ≡ message) × (copy′ ≡ copy) × (value ≡ 0))
+      (ReaderBegins control message copy code bytes r control′ message′ copy′ value)
+
+pub record ReaderWaited (control message copy : List ℕ) (r : ℕ) (control′ copy′ : List ℕ) (value : ℕ) : Type 0 where
+  pub started : Started
+  pub times : reading.TimesOut (readerIn control) message copy started copy′
+  pub brings : Brings (started .outcome) r value
+  pub kept : Kept readerIn readerBytes (started .reader) control control′
+
+pub record ReaderTimesOut (control message copy : List ℕ) (r : ℕ) (control′ copy′ : List ℕ) (value : ℕ) : Type 0 where
+  pub asks :
+      Asks (atLeast readerControlSize control ∷ atLeast packetSize copy ∷ [])
+      ((r ≡ 13) × (control′ ≡ control) × (copy′ ≡ copy) × (value ≡ 0))
+      (ReaderWaited control message copy r control′ copy′ value)
+
+pub record ReaderTakes (control line answers message answer copy : List ℕ) (event r : ℕ) (control′ line′ answers′ answer′ copy′ values : List ℕ) : Type 0 where
+  pub taken : Commanded
+  pub hears : reading.Hears (readerIn control) line answers message answer copy (eventOf event) taken line′ answers′ answer′ copy′
+  pub told : r ≡ readerNumber (taken .told)
+  pub values-are : values ≡ readerValues (taken .told) (taken .answer) (taken .outcome)
+  pub kept : Kept readerIn readerBytes (taken .reader) control control′
+
+pub record ReaderHears (control line answers message answer copy : List ℕ) (event r : ℕ) (control′ line′ answers′ answer′ copy′ values : List ℕ) : Type 0 where
+  pub asks :
+      Asks (atLeast readerControlSize control ∷ atLeast readerAnswerSize answer ∷ atLeast packetSize copy ∷ [])
+      ((r ≡ 13)
+      × (control′ ≡ control)
+      × (line′ ≡ line)
+      × (answers′ ≡ answers)
+      × (answer′ ≡ answer)
+      × (copy′ ≡ copy)
+      × (values ≡ 0 ∷ 0 ∷ 0 ∷ 0 ∷ 0 ∷ 0 ∷ []))
+      (ReaderTakes control line answers message answer copy event r control′ line′ answers′ answer′ copy′ values)
+
+-- The present value of a parameter.
+pub record ReaderShows (control : List ℕ) (number r value : ℕ) : Type 0 where
+  pub shows : settings.Value (readerIn control .device .table) number value
+  pub told : r ≡ 0
+
+pub record ReaderValue (control : List ℕ) (number r value : ℕ) : Type 0 where
+  pub asks : Asks (atLeast readerControlSize control ∷ []) ((r ≡ 13) × (value ≡ 0)) (ReaderShows control number r value)
+
+-- What is switched on.
+pub record ReaderSwitches (control : List ℕ) (r : ℕ) (values : List ℕ) : Type 0 where
+  pub asks :
+      Asks (atLeast readerControlSize control ∷ [])
+      ((r ≡ 13) × (values ≡ 0 ∷ 0 ∷ 0 ∷ 0 ∷ []))
+      ((r ≡ 0) × (values ≡ switchValues (readerIn control .device)))

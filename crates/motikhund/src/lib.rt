@@ -1,0 +1,443 @@
+// The library for other languages: every machine over bytes and numbers. The caller keeps a control value as bytes (`control`),
+// what is told comes back as numbers (`numbers`), and no call trusts its caller: whatever is lent too small is number 13, with
+// nothing changed.
+mod control;
+mod numbers;
+
+use control::FRAMER_CONTROL_SIZE;
+use control::HUB_CONTROL_SIZE;
+use control::READER_CONTROL_SIZE;
+use control::SENDER_CONTROL_SIZE;
+use hub::Hub;
+ghost use Prim.Native.Nat.{_≤_};
+ghost use mathlib.Core.Path.{_≡_};
+ghost use lib.ListN.{length};
+ghost use Rattle.packet.specs.Sizes.{messageSize};
+ghost use Rattle.motikhund.specs.Control.{hubControlSize};
+ghost use Rattle.motikhund.specs.Promises.{PacketChecks, PacketBuilds, PacketAnswers, FramerIdle, FramerHears, HubOn, HubHears, HubTakes, HubGoesOn, SenderIdle, SenderStarts, SenderHears, SenderWaits, SenderHeeds, ReaderOn, ReaderPowersUp, ReaderStarts, ReaderTimesOut, ReaderHears, ReaderValue, ReaderSwitches};
+
+// Lent room too small.
+const ROOM: u32 = 13;
+
+// ---- the packet
+
+// Judges the front of some bytes: 100 and the head of the packet there, or a refusal.
+#[no_mangle]
+pub extern "C" fn mk_check(bytes: &[u8], head: &mut [usize; 4]) -> u32
+    ensures { λ r. ⌜ PacketChecks (now (bytes .entry)) r (now (head .exit)) ⌝ }
+{
+    let checked = packet::check(bytes);
+    numbers::checked_values(checked, head);
+    numbers::checked(checked)
+}
+
+// A packet at the front of the room: 101 and its size, or a refusal.
+#[no_mangle]
+pub extern "C" fn mk_build(
+    room: &mut [u8],
+    opcode: u8,
+    source: u8,
+    status: u8,
+    data: &[u8],
+    size: &mut usize,
+) -> u32
+    ensures { λ r. ⌜ PacketBuilds (now (room .entry)) opcode source status (now («data» .entry)) r (now (room .exit)) (now (size .exit)) ⌝ }
+{
+    let built = packet::build(room, opcode, source, status, data);
+    *size = packet::size_of(built);
+    numbers::built(built)
+}
+
+// An ACK or a NAK at the front of the room: 101 and its size, or a refusal.
+#[no_mangle]
+pub extern "C" fn mk_answer(room: &mut [u8], source: u8, reply: u32, size: &mut usize) -> u32
+    ensures { λ r. ⌜ PacketAnswers (now (room .entry)) source reply r (now (room .exit)) (now (size .exit)) ⌝ }
+{
+    let built = packet::answer(room, source, numbers::reply(reply));
+    *size = packet::size_of(built);
+    numbers::built(built)
+}
+
+// ---- the framer
+
+// A framer with nothing begun.
+#[no_mangle]
+pub extern "C" fn mk_framer_idle(control: &mut [u8]) -> u32
+    ensures { λ r. ⌜ FramerIdle (now (control .entry)) r (now (control .exit)) ⌝ }
+{
+    if control.len() < FRAMER_CONTROL_SIZE {
+        return ROOM;
+    }
+    control::put_framer(framer::idle(), control);
+    0
+}
+
+// One event: 100 and the head of the packet that stands at the front of the line buffer, a refusal, or 0.
+#[no_mangle]
+pub extern "C" fn mk_framer_hear(
+    control: &mut [u8],
+    line: &mut [u8],
+    event: u32,
+    head: &mut [usize; 4],
+) -> u32
+    ensures { λ r. ⌜ FramerHears (now (control .entry)) (now (line .entry)) event r (now (control .exit)) (now (line .exit)) (now (head .exit)) ⌝ }
+{
+    if control.len() < FRAMER_CONTROL_SIZE {
+        *head = [0; 4];
+        return ROOM;
+    }
+    if line.len() < packet::PACKET_SIZE {
+        *head = [0; 4];
+        return ROOM;
+    }
+    let framed = framer::hear(control::framer(control), line, numbers::event(event));
+    let next = framed.framer;
+    let found = framed.found;
+    control::put_framer(next, control);
+    numbers::found_values(found, head);
+    numbers::found(found)
+}
+
+// ---- the hub
+
+// A hub just switched on.
+#[no_mangle]
+pub extern "C" fn mk_hub_on(control: &mut [u8]) -> u32
+    ensures { λ r. ⌜ HubOn (now (control .entry)) r (now (control .exit)) ⌝ }
+{
+    if control.len() < HUB_CONTROL_SIZE {
+        return ROOM;
+    }
+    control::put_hub(hub::switched_on(), control);
+    0
+}
+
+// One event: 110 a piece was added, 111 a repeat, 112 a message stands in the message room, a refusal, or 0. The values are the
+// answer's size, the message's code type and its size.
+#[no_mangle]
+pub extern "C" fn mk_hub_hear(
+    control: &mut [u8],
+    line: &mut [u8; framer::LINE_SIZE],
+    gather: &mut [u8; packet::MESSAGE_SIZE],
+    answer: &mut [u8],
+    message: &mut [u8],
+    event: u32,
+    values: &mut [usize; 3],
+) -> u32
+    ensures { λ r. ⌜ HubHears (now (control .entry)) (now (line .entry)) (now (gather .entry)) (now (answer .entry)) (now (message .entry)) event r (now (control .exit)) (now (line .exit)) (now (gather .exit)) (now (answer .exit)) (now (message .exit)) (now (values .exit)) ⌝ }
+{
+    if control.len() < HUB_CONTROL_SIZE {
+        *values = [0; 3];
+        return ROOM;
+    }
+    if answer.len() < hub::HUB_ANSWER_SIZE {
+        *values = [0; 3];
+        return ROOM;
+    }
+    if message.len() < packet::MESSAGE_SIZE {
+        *values = [0; 3];
+        return ROOM;
+    }
+    match hub::go_on(control::hub(control), line, numbers::event(event)) {
+        hub::Going::On(next) => hub_goes_on(next, &gather[..], control, values),
+        hub::Going::Left => hub_hears(control, line, gather, answer, message, event, values),
+    }
+}
+
+// The short way, for most bytes of a line: there is nothing to tell.
+fn hub_goes_on(hub: Hub, gather: &[u8], control: &mut [u8], values: &mut [usize; 3]) -> u32
+    requires { ⌜ (length (now gather) ≡ messageSize) × (hubControlSize ≤ length (now control)) ⌝ }
+    ensures { λ r. ⌜ HubGoesOn hub (now (gather .entry)) (now (control .entry)) r (now (control .exit)) (now (values .exit)) ⌝ }
+{
+    control::put_hub(hub, control);
+    *values = [0; 3];
+    0
+}
+
+fn hub_hears(
+    control: &mut [u8],
+    line: &mut [u8; framer::LINE_SIZE],
+    gather: &mut [u8; packet::MESSAGE_SIZE],
+    answer: &mut [u8],
+    message: &mut [u8],
+    event: u32,
+    values: &mut [usize; 3],
+) -> u32
+    requires { ⌜ hubControlSize ≤ length (now control) ⌝ }
+    ensures { λ r. ⌜ HubTakes (now (control .entry)) (now (line .entry)) (now (gather .entry)) (now (answer .entry)) (now (message .entry)) event r (now (control .exit)) (now (line .exit)) (now (gather .exit)) (now (answer .exit)) (now (message .exit)) (now (values .exit)) ⌝ }
+{
+    let taken = hub::hear(
+        control::hub(control),
+        line,
+        gather,
+        answer,
+        message,
+        numbers::event(event),
+    );
+    let next = taken.hub;
+    let told = taken.told;
+    control::put_hub(next, control);
+    numbers::hub_values(told, taken.answer, values);
+    numbers::hub(told)
+}
+
+// ---- the sender
+
+// A sender with nothing out, after a message that failed or not.
+#[no_mangle]
+pub extern "C" fn mk_sender_idle(control: &mut [u8], failed: bool) -> u32
+    ensures { λ r. ⌜ SenderIdle (now (control .entry)) failed r (now (control .exit)) ⌝ }
+{
+    if control.len() < SENDER_CONTROL_SIZE {
+        return ROOM;
+    }
+    control::put_sender(sender::idle(failed), control);
+    0
+}
+
+// Starts a message: 120 and the size of the copy that stands in the room, or a refusal, which leaves the control bytes alone.
+#[no_mangle]
+pub extern "C" fn mk_sender_start(
+    control: &mut [u8],
+    buffer: &mut [u8; packet::MESSAGE_SIZE],
+    room: &mut [u8],
+    code: u8,
+    message: &[u8],
+    value: &mut usize,
+) -> u32
+    ensures { λ r. ⌜ SenderStarts (now (control .entry)) (now (buffer .entry)) (now (room .entry)) code (now (message .entry)) r (now (control .exit)) (now (buffer .exit)) (now (room .exit)) (now (value .exit)) ⌝ }
+{
+    if control.len() < SENDER_CONTROL_SIZE {
+        *value = 0;
+        return ROOM;
+    }
+    if room.len() < packet::PACKET_SIZE {
+        *value = 0;
+        return ROOM;
+    }
+    let sending = sender::start(control::sender(control), buffer, room, code, message);
+    let next = sending.sender;
+    let outcome = sending.outcome;
+    *value = numbers::outcome_value(outcome);
+    if numbers::refused(outcome) {
+        return numbers::outcome(outcome);
+    }
+    control::put_sender(next, control);
+    numbers::outcome(outcome)
+}
+
+// One thing heard of the host: 120 and the size of a copy, 121 delivered or 122 failed and the message's marked copies, or 0.
+#[no_mangle]
+pub extern "C" fn mk_sender_hear(
+    control: &mut [u8],
+    buffer: &[u8; packet::MESSAGE_SIZE],
+    room: &mut [u8],
+    heard: u32,
+    value: &mut usize,
+) -> u32
+    ensures { λ r. ⌜ SenderHears (now (control .entry)) (now (buffer .entry)) (now (room .entry)) heard r (now (control .exit)) (now (room .exit)) (now (value .exit)) ⌝ }
+{
+    if control.len() < SENDER_CONTROL_SIZE {
+        *value = 0;
+        return ROOM;
+    }
+    if room.len() < packet::PACKET_SIZE {
+        *value = 0;
+        return ROOM;
+    }
+    let sending = sender::hear(
+        control::sender(control),
+        buffer,
+        room,
+        numbers::heard(heard),
+    );
+    let next = sending.sender;
+    let outcome = sending.outcome;
+    control::put_sender(next, control);
+    *value = numbers::outcome_value(outcome);
+    numbers::outcome(outcome)
+}
+
+// 123 where a message is out, else 0.
+#[no_mangle]
+pub extern "C" fn mk_sender_waits(control: &[u8]) -> u32
+    ensures { λ r. ⌜ SenderWaits (now (control .entry)) r ⌝ }
+{
+    if control.len() < SENDER_CONTROL_SIZE {
+        return ROOM;
+    }
+    if sender::waits(control::sender(control)) {
+        return 123;
+    }
+    0
+}
+
+// What a sender hears of a packet with these fields and data, as `mk_sender_hear` takes it.
+#[no_mangle]
+pub extern "C" fn mk_sender_heed(opcode: u8, source: u8, status: u8, data: &[u8]) -> u32
+    ensures { λ r. ⌜ SenderHeeds opcode source status (now («data» .entry)) r ⌝ }
+{
+    numbers::heard_number(sender::heed(packet::HOST, opcode, source, status, data))
+}
+
+// ---- the reader's whole end
+
+// A reader switched on with the house defaults.
+#[no_mangle]
+pub extern "C" fn mk_reader_on(control: &mut [u8]) -> u32
+    ensures { λ r. ⌜ ReaderOn (now (control .entry)) r (now (control .exit)) ⌝ }
+{
+    if control.len() < READER_CONTROL_SIZE {
+        return ROOM;
+    }
+    let table = table::defaults();
+    control::put_reader(reader::switched_on(table), control);
+    0
+}
+
+// Power-up: permanent values are copied to present ones; framer, sender and the last accepted packet are forgotten.
+#[no_mangle]
+pub extern "C" fn mk_reader_power_up(control: &mut [u8]) -> u32
+    ensures { λ r. ⌜ ReaderPowersUp (now (control .entry)) r (now (control .exit)) ⌝ }
+{
+    if control.len() < READER_CONTROL_SIZE {
+        return ROOM;
+    }
+    let next = reader::power_up(control::reader(control));
+    control::put_reader(next, control);
+    0
+}
+
+// Starts a message: 120 and the size of the copy that stands in the copy room, or a refusal, which leaves the control bytes
+// alone.
+#[no_mangle]
+pub extern "C" fn mk_reader_start(
+    control: &mut [u8],
+    message: &mut [u8; packet::MESSAGE_SIZE],
+    copy: &mut [u8],
+    code: u8,
+    bytes: &[u8],
+    value: &mut usize,
+) -> u32
+    ensures { λ r. ⌜ ReaderStarts (now (control .entry)) (now (message .entry)) (now (copy .entry)) code (now (bytes .entry)) r (now (control .exit)) (now (message .exit)) (now (copy .exit)) (now (value .exit)) ⌝ }
+{
+    if control.len() < READER_CONTROL_SIZE {
+        *value = 0;
+        return ROOM;
+    }
+    if copy.len() < packet::PACKET_SIZE {
+        *value = 0;
+        return ROOM;
+    }
+    let started = reader::start(control::reader(control), message, copy, code, bytes);
+    let next = started.reader;
+    let outcome = started.outcome;
+    *value = numbers::outcome_value(outcome);
+    if numbers::refused(outcome) {
+        return numbers::outcome(outcome);
+    }
+    control::put_reader(next, control);
+    numbers::outcome(outcome)
+}
+
+// The sender's response time-out: 120 and the size of a copy, 122 failed and the message's marked copies, or 0.
+#[no_mangle]
+pub extern "C" fn mk_reader_time_out(
+    control: &mut [u8],
+    message: &[u8; packet::MESSAGE_SIZE],
+    copy: &mut [u8],
+    value: &mut usize,
+) -> u32
+    ensures { λ r. ⌜ ReaderTimesOut (now (control .entry)) (now (message .entry)) (now (copy .entry)) r (now (control .exit)) (now (copy .exit)) (now (value .exit)) ⌝ }
+{
+    if control.len() < READER_CONTROL_SIZE {
+        *value = 0;
+        return ROOM;
+    }
+    if copy.len() < packet::PACKET_SIZE {
+        *value = 0;
+        return ROOM;
+    }
+    let started = reader::time_out(control::reader(control), message, copy);
+    let next = started.reader;
+    let outcome = started.outcome;
+    control::put_reader(next, control);
+    *value = numbers::outcome_value(outcome);
+    numbers::outcome(outcome)
+}
+
+// One event: 130 a command was acted on, 111 a repeat, a refusal, or 0. The values are the answer's size, duration, pitch and
+// number of beeps, and what the sender brought, number and value.
+#[no_mangle]
+pub extern "C" fn mk_reader_hear(
+    control: &mut [u8],
+    line: &mut [u8; framer::LINE_SIZE],
+    answers: &mut [u8; reader::READER_ANSWER_SIZE],
+    message: &[u8; packet::MESSAGE_SIZE],
+    answer: &mut [u8],
+    copy: &mut [u8],
+    event: u32,
+    values: &mut [usize; 6],
+) -> u32
+    ensures { λ r. ⌜ ReaderHears (now (control .entry)) (now (line .entry)) (now (answers .entry)) (now (message .entry)) (now (answer .entry)) (now (copy .entry)) event r (now (control .exit)) (now (line .exit)) (now (answers .exit)) (now (answer .exit)) (now (copy .exit)) (now (values .exit)) ⌝ }
+{
+    if control.len() < READER_CONTROL_SIZE {
+        *values = [0; 6];
+        return ROOM;
+    }
+    if answer.len() < reader::READER_ANSWER_SIZE {
+        *values = [0; 6];
+        return ROOM;
+    }
+    if copy.len() < packet::PACKET_SIZE {
+        *values = [0; 6];
+        return ROOM;
+    }
+    let before = control::reader(control);
+    let taken = reader::hear(
+        before,
+        line,
+        answers,
+        message,
+        answer,
+        copy,
+        numbers::event(event),
+    );
+    let next = taken.reader;
+    let told = taken.told;
+    let outcome = taken.outcome;
+    control::put_reader(next, control);
+    numbers::reader_values(told, taken.answer, outcome, values);
+    numbers::reader(told)
+}
+
+// The present value of a parameter; 0 where it is not supported.
+#[no_mangle]
+pub extern "C" fn mk_reader_value(control: &[u8], number: u8, value: &mut usize) -> u32
+    ensures { λ r. ⌜ ReaderValue (now (control .entry)) number r (now (value .exit)) ⌝ }
+{
+    if control.len() < READER_CONTROL_SIZE {
+        *value = 0;
+        return ROOM;
+    }
+    let before = control::reader(control);
+    let device = before.device;
+    let table = device.table;
+    *value = words::wide(table::value(table, number));
+    0
+}
+
+// What is switched on: scanning, session, aim, LED, each 1 or 0.
+#[no_mangle]
+pub extern "C" fn mk_reader_switches(control: &[u8], values: &mut [usize; 4]) -> u32
+    ensures { λ r. ⌜ ReaderSwitches (now (control .entry)) r (now (values .exit)) ⌝ }
+{
+    if control.len() < READER_CONTROL_SIZE {
+        *values = [0; 4];
+        return ROOM;
+    }
+    let before = control::reader(control);
+    let device = before.device;
+    control::switches(device, values);
+    0
+}
