@@ -96,7 +96,7 @@ byte-deaf {f} {line = line} {b} h e k =
     }
 
 module _ (f : Framer) (line : List ℕ) (at b : ℕ) (h : packetSize ≤ length line) (e : f .deaf ≡ false) (begun : Begun f at) where
-  so-far : take (at + 1) (set line at b) ≡ take at line ++ (b ∷ [])
+  pub so-far : take (at + 1) (set line at b) ≡ take at line ++ (b ∷ [])
   so-far = let m = begun .most in rw (add-one at) (take-suc-set line at b (omega arith))
 
   heard : (r : Checked) → Check (take (at + 1) (set line at b)) r → framerStep (lineOf f line) (Byte b) ≡ judged (take at line ++ (b ∷ [])) r

@@ -65,9 +65,6 @@ pub received-none : {h : Halves} {buffer : List ℕ} {n : ℕ} → packetSize < 
 unfolding receivedIn
 received-none {h} {buffer} {n} l = record { is = simp (lt-leb n packetSize l); long = λ z. omega arith }
 
-pub moved-last : {h : Halves} {f : Framer} {n : ℕ} → Last h n → Moved h f (record { framer = f; second = h .second; last = n })
-moved-last l = record { is = rw (l .is) refl }
-
 pub listens : {h h′ : Halves} {buffer half : List ℕ} {e : Event} {a : ℕ} {r : Framed} → length buffer ≡ lineSize → Place (h .second) a → Moved h (r .framer) h′ →
     Frames (h .framer) (take (a + packetSize - a) (drop a buffer)) e r half →
     Bytes (take a buffer ++ (half ++ drop (a + packetSize - a) (drop a buffer))) →
@@ -183,7 +180,7 @@ module _ {h : Halves} {buffer : List ℕ} {e : Event} {r : Listened} {buffer′ 
   unfolding lineIn listenedOf
   found-told = found-is (enough-half h buffer e (k .long)) (frames-after h buffer e (k .long)) half-bytes ∙ sym (ap (λ (l : Listened). l .found) (k .is))
 
-  halves-are : r .halves ≡ record { framer = framedOf (h .framer) (halfOf (h .second) buffer) e .framer; second = h .second; last = lastOf h }
+  halves-are : r .halves ≡ record { framer = framedOf (h .framer) (halfOf (h .second) buffer) e .framer; second = h .second; last = h .last }
   unfolding listenedOf
   halves-are = ap (λ (l : Listened). l .halves) (k .is)
 
@@ -195,10 +192,10 @@ module _ {h : Halves} {buffer : List ℕ} {e : Event} {r : Listened} {buffer′ 
       (view-is (enough-half h buffer e (k .long)) (frames-after h buffer e (k .long)) half-bytes)
 
   pub kept-listened : keptIn (r .halves) buffer′ ≡ keptIn h buffer
-  unfolding keptIn
+  unfolding keptIn lastOf
   kept-listened =
       let m = last-most h in
-      rw (halves-are, back-is, last-small (record { framer = framedOf (h .framer) (halfOf (h .second) buffer) e .framer; second = h .second; last = lastOf h }) m)
+      rw (halves-are, back-is)
       (other-back (h .second) buffer (halfAfter h buffer e) (lastOf h) (k .long) (size-after h buffer e (k .long)) (omega arith))
 
   -- What was found is what was told.

@@ -2,17 +2,17 @@
 -- Assumes nothing.
 use Prim.Native.Nat.{ℕ}
 use mathlib.Core.Path.{_≡_, refl, sym, ap, _∙_}
+use mathlib.Core.Bool.{Bool}
 use mathlib.Core.List.{List}
 use Rattle.framer.specs.Promises.{Idle, Frames}
-use Rattle.words.proofs.Lists.{never}
-use Rattle.framer.specs.Halves.{IdleHalves, Listens, Received, Kept, AcceptsLast, GoesOn, on, left}
+use Rattle.framer.specs.Halves.{IdleHalves, Listens, Received, Kept, AcceptsLast, goingBy, GoesOn, on, left}
 use Rattle.framer.specs.declared.Event.{Event}
 use Rattle.framer.specs.declared.Framer.{Framer}
 use Rattle.framer.specs.declared.Framed.{Framed}
 use Rattle.framer.specs.declared.Halves.{Halves}
 use Rattle.framer.specs.declared.Listened.{Listened}
 use Rattle.framer.specs.declared.Going.{Going}
-use Rattle.framer.specs.declared.Going.the-variants.{On}
+use Rattle.words.proofs.Lists.{never}
 
 pub idle-unique : {r r′ : Framer} → Idle r → Idle r′ → r ≡ r′
 idle-unique p q = p .is ∙ sym (q .is)
@@ -36,9 +36,11 @@ kept-unique p q = p .is ∙ sym (q .is)
 pub accept-unique : {h r r′ : Halves} {n : ℕ} → AcceptsLast h n r → AcceptsLast h n r′ → r ≡ r′
 accept-unique p q = p .is ∙ sym (q .is)
 
-pub go-on-unique : {h : Halves} {buffer buffer₁ buffer₂ : List ℕ} {e : Event} {r r′ : Going} → GoesOn h buffer e r buffer₁ → GoesOn h buffer e r′ buffer₂ →
+pub go-on-unique : {f : Framer} {second : Bool} {buffer buffer₁ buffer₂ : List ℕ} {e : Event} {r r′ : Going} → GoesOn f second buffer e r buffer₁ → GoesOn f second buffer e r′ buffer₂ →
     (r ≡ r′) × (buffer₁ ≡ buffer₂)
-go-on-unique (on g k) (on g′ k′) = let u = listen-unique k k′ in (ap (λ (l : Listened). On (l .halves)) (u .0), u .1)
-go-on-unique (on g k) (left g′ k′) = never (cc)
-go-on-unique (left g k) (on g′ k′) = never (cc)
+go-on-unique {f} (on t g k) (on t′ g′ k′) =
+    let u = listen-unique (k 0) (k′ 0) in
+    (t ∙ (ap (λ (l : Listened). goingBy (f .deaf) (l .halves .framer .deaf) (l .halves .framer .count)) (u .0) ∙ sym t′), u .1)
+go-on-unique (on t g k) (left g′ k′) = never (cc)
+go-on-unique (left g k) (on t g′ k′) = never (cc)
 go-on-unique (left g k) (left g′ k′) = (refl, k ∙ sym k′)

@@ -1,5 +1,6 @@
 -- §5, the framer: one event at a time.
 use Prim.Native.Nat.{ℕ}
+use mathlib.Core.Bool.{Bool, true, false}
 use mathlib.Core.List.{List, [], _∷_, _++_}
 use lib.Dec.{eqb}
 use Rattle.words.specs.Lists.{pick}
@@ -22,6 +23,11 @@ pub data Line : Type 0 where
 pub data Heard : Type 0 where
   packet : List ℕ → Heard
   refused : Refusal → Heard
+
+-- Whether nothing came out.
+unfoldable pub silent : List Heard → Bool
+silent [] = true
+silent (x ∷ xs) = false
 
 abbrev pub quiet : Line → Done Line Heard
 quiet line = record { next = line; told = [] }

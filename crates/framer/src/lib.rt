@@ -1,6 +1,7 @@
 // The framer (§5): bytes and gaps of a line, one event at a time, into packets and refusals.
 use packet::CHECKSUM_SIZE;
 use packet::Checked;
+use packet::HEAD_SIZE;
 use packet::Head;
 use packet::PACKET_SIZE;
 use packet::Refusal;
@@ -10,7 +11,7 @@ ghost use mathlib.Core.Path.{_≡_};
 ghost use lib.ListN.{length};
 ghost use Rattle.packet.specs.Sizes.{packetSize};
 ghost use Rattle.framer.specs.Halves.{lineSize, IdleHalves, Moved, Listens, Received, Kept, AcceptsLast, Place, Last, GoesOn, Inside};
-ghost use Rattle.framer.specs.Promises.{Idle, Deaf, Ended, Begun, Gap, Unfinished, Frames};
+ghost use Rattle.framer.specs.Promises.{begunOf, Idle, Deaf, Ended, Begun, Gap, Unfinished, Frames};
 
 // Room for two packets: one half receives, the last accepted packet stays in the other.
 pub const LINE_SIZE: usize = 2 * PACKET_SIZE;
@@ -184,7 +185,8 @@ fn listen_in(halves: Halves, buffer: &mut [u8], event: Event) -> Listened
 {
     let from = place(halves.second);
     let end = from + PACKET_SIZE;
-    let framed = hear(halves.framer, &mut buffer[from..end], event);
+    let before = halves.framer;
+    let framed = hear(before, &mut buffer[from..end], event);
     let framer = framed.framer;
     let found = framed.found;
     Listened {
@@ -200,63 +202,96 @@ fn moved(halves: Halves, framer: Framer) -> Halves
     Halves {
         framer,
         second: halves.second,
-        last: last(halves),
+        last: halves.last,
     }
 }
 
-// What a byte came to that neither begins nor ends a packet: the framer goes on. Any other event is left.
+// What the short way did with an event.
 pub enum Going {
-    On(Halves),
+    // so many bytes are begun now; deaf or not, the framer is as it was
+    On(usize),
+    // a deaf framer hears again, with nothing begun
+    Woken,
+    // it was left: the framer may have something to tell
     Left,
 }
 
-// The short way of `listen`, for most bytes of a line: those inside a packet, and those that a deaf framer ignores. It has no test
-// for number 13, so it stands for an event with rooms of full size: whoever lends rooms tests them first.
-pub fn go_on(halves: Halves, buffer: &mut [u8; LINE_SIZE], event: Event) -> Going
-    ensures { λ r. ⌜ GoesOn halves (now (buffer .entry)) event r (now (buffer .exit)) ⌝ }
+// The short way of `listen`, for a byte or a character gap of which the framer tells nothing: most events of a line. Of the halves it
+// needs the framer, and which one receives. It has no test for number 13, so it stands for an event with rooms of full size: whoever
+// lends rooms tests them first.
+pub fn go_on(framer: Framer, second: bool, buffer: &mut [u8; LINE_SIZE], event: Event) -> Going
+    ensures { λ r. ⌜ GoesOn framer second (now (buffer .entry)) event r (now (buffer .exit)) ⌝ }
 {
     match event {
-        Event::Byte(b) => carry(halves, buffer, b),
-        Event::CharacterGap => Going::Left,
+        Event::Byte(b) => carry(framer, second, buffer, b),
+        Event::CharacterGap => pause(framer, second, &buffer[..]),
         Event::MessageGap => Going::Left,
     }
 }
 
-fn carry(halves: Halves, buffer: &mut [u8], b: u8) -> Going
+fn carry(framer: Framer, second: bool, buffer: &mut [u8], b: u8) -> Going
     requires { ⌜ length (now buffer) ≡ lineSize ⌝ }
-    ensures { λ r. ⌜ GoesOn halves (now (buffer .entry)) (Event.Byte b) r (now (buffer .exit)) ⌝ }
+    ensures { λ r. ⌜ GoesOn framer second (now (buffer .entry)) (Event.Byte b) r (now (buffer .exit)) ⌝ }
 {
-    let before = halves.framer;
-    if before.deaf {
-        return Going::On(moved(halves, deaf()));
+    if framer.deaf {
+        return Going::On(0);
     }
-    let from = place(halves.second);
+    let from = place(second);
     let end = from + PACKET_SIZE;
-    let count = inside(before, &mut buffer[from..end], b);
+    let count = inside(framer, &mut buffer[from..end], b);
     if count == 0 {
         return Going::Left;
     }
-    Going::On(moved(halves, Framer { count, deaf: false }))
+    Going::On(count)
 }
 
-// A byte inside a packet goes behind those before it: how many there are then. Where it begins or ends one it is left: 0.
+// A byte that ends no packet goes behind those before it: how many there are then. One that ends it, or is too low a length, is left: 0.
 fn inside(framer: Framer, line: &mut [u8], b: u8) -> usize
     requires { ⌜ (packetSize ≤ length (now line)) × (framer .deaf ≡ false) ⌝ }
     ensures { λ r. ⌜ Inside framer (now (line .entry)) b r (now (line .exit)) ⌝ }
 {
-    let n = begun(framer);
+    let n = framer.count;
     if n == 0 {
-        return 0;
+        return first(framer, line, b);
     }
     let length = words::wide(line[0]);
-    if length < 4 {
+    if n <= length {
+        if length < HEAD_SIZE {
+            return 0;
+        }
+        line[n] = b;
+        return n + 1;
+    }
+    if n < PACKET_SIZE {
         return 0;
     }
-    if length < n {
+    first(framer, line, b)
+}
+
+// The first byte of a packet is its length.
+fn first(framer: Framer, line: &mut [u8], b: u8) -> usize
+    requires { ⌜ (packetSize ≤ length (now line)) × (framer .deaf ≡ false) × (begunOf framer ≡ 0) ⌝ }
+    ensures { λ r. ⌜ Inside framer (now (line .entry)) b r (now (line .exit)) ⌝ }
+{
+    if words::wide(b) < HEAD_SIZE {
         return 0;
     }
-    line[n] = b;
-    n + 1
+    line[0] = b;
+    1
+}
+
+// A gap with nothing begun.
+fn pause(framer: Framer, second: bool, buffer: &[u8]) -> Going
+    requires { ⌜ length (now buffer) ≡ lineSize ⌝ }
+    ensures { λ r. ⌜ GoesOn framer second (now (buffer .entry)) Event.CharacterGap r (now (buffer .entry)) ⌝ }
+{
+    if framer.deaf {
+        return Going::Woken;
+    }
+    match begun(framer) {
+        0 => Going::On(0),
+        _ => Going::Left,
+    }
 }
 
 // The first n bytes of the half that receives.

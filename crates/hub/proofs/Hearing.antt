@@ -2,7 +2,7 @@
 use Prim.Native.Nat.{ℕ, _≤_, _<_}
 use mathlib.Core.Path.{_≡_, refl, sym, ap, _∙_}
 use mathlib.Core.Bool.{Bool, true, false}
-use mathlib.Core.List.{List, [], _∷_}
+use mathlib.Core.List.{List, []}
 use native.Mathlib.Omega.{arith}
 use lib.ListN.{length, length-take}
 use borrow.Author.Tests.{le-leb, le-ltb, lt-ltb}
@@ -15,19 +15,19 @@ use Rattle.packet.specs.Sizes.{bodySize, messageSize}
 use Rattle.packet.specs.declared.Refusal.{Refusal}
 use Rattle.packet.specs.declared.Head.{Head}
 use Rattle.packet.proofs.Marks.{length-unmarked, unmarked-pick}
-use Rattle.framer.specs.Framer.{Line, hearing, Heard, packet, refused as noPacket, framerStep}
+use Rattle.framer.specs.Framer.{Line, hearing, Heard, packet, refused as noPacket, silent, framerStep}
 use Rattle.framer.specs.Behind.{framed}
 use Rattle.framer.specs.Promises.{lineOf, begunOf}
-use Rattle.framer.specs.Halves.{halfOf, lastOf, lineIn, keptIn, receivedIn, acceptedOf, Listens, Received, Kept as Keeping}
+use Rattle.framer.specs.Halves.{halfOf, lastOf, lineIn, keptIn, receivedIn, tellsNothing, acceptedOf, Listens, Received, Kept as Keeping}
 use Rattle.framer.specs.declared.Event.{Event}
 use Rattle.framer.specs.declared.Event.the-variants.{Byte, CharacterGap, MessageGap}
 use Rattle.framer.specs.declared.Halves.{Halves}
 use Rattle.framer.specs.declared.Listened.{Listened}
 use Rattle.framer.specs.declared.Found.the-variants.{Nothing, Packet, Refused}
-use Rattle.framer.proofs.TwoHalves.{kept-listened, listened-nothing, listened-refused, listened-packet, line-behind, kept-behind, control-behind}
+use Rattle.framer.proofs.TwoHalves.{line-listened, kept-listened, listened-nothing, listened-refused, listened-packet, line-behind, kept-behind, control-behind}
 use Rattle.hub.specs.Joiner.{Gathered, none, some, Joiner, Output, refusing, bytesOf}
 use Rattle.hub.specs.Hub.{HubState, packetStep, heardStep, cleared, hubStep}
-use Rattle.hub.specs.Promises.{toldOf, answerOf, messageOf, soundOf, gatheredOf, joinerOf, gatheringOf, stateOf, accepts, acceptsName, controlAfter, clearedControl, hubAnswerSize, tooSmall, nameBytes, Hears, Gatherings, Joins, Stays, Settles, Receives, Steps, NoRoom, Cleared, Writes}
+use Rattle.hub.specs.Promises.{toldOf, answerOf, messageOf, soundOf, gatheredOf, joinerOf, gatheringOf, stateOf, accepts, controlAfter, clearedControl, hubAnswerSize, tooSmall, nameBytes, Hears, Gatherings, Joins, Stays, Settles, Receives, Steps, NoRoom, Cleared, Writes}
 use Rattle.hub.specs.declared.Gathering.{Gathering}
 use Rattle.hub.specs.declared.Hub.{Hub}
 use Rattle.hub.specs.declared.Told.the-variants as told
@@ -35,7 +35,7 @@ use Rattle.hub.specs.declared.Joined.{Joined}
 use Rattle.hub.specs.declared.Stepped.{Stepped}
 use Rattle.hub.specs.declared.Taken.{Taken}
 use Rattle.hub.proofs.Control.{refusing-hands-out}
-use Rattle.hub.proofs.Joining.{still}
+use Rattle.hub.proofs.Joining.{gathered-over, still}
 use Rattle.hub.proofs.Outcomes.{Kept, kept, packet-outcome, event-happens, name-answers}
 
 -- ---- what is gathered
@@ -71,6 +71,7 @@ halvesBehind a h n = pick a (acceptedOf h n) h
 module _ {hub : Hub} {line : List ℕ} {e : Event} {l : Listened} {line′ : List ℕ} (k : Listens (hub .line) line e l line′) where
   -- The joiner's step on what was told, d, with the control value and the buffers that it leaves.
   settled : {d : Done Joiner Output} {n : ℕ} {j : Joined} {r : Stepped} {gather message gather′ message′ : List ℕ} →
+      tellsNothing (hub .line) line e ≡ false →
       through heardStep (joinerAt hub line gather) (framerAt hub line e .told) ≡ d →
       Kept (joinerAt hub line gather) (receivedIn (l .halves) line′ n) d →
       n ≤ bodySize →
@@ -80,7 +81,7 @@ module _ {hub : Hub} {line : List ℕ} {e : Event} {l : Listened} {line′ : Lis
       Settles (l .halves) n j r →
       Steps hub line gather message e r line′ gather′ message′
   unfolding framed stateOf controlAfter joinerOf accepts
-  settled {d} {n} {j} {r} {gather} {message} t k₁ h size idle joins settles =
+  settled {d} {n} {j} {r} {gather} {message} loud t k₁ h size idle joins settles =
       let a = accepts (d .told) in
       let g = gatheringOf (d .next .barred) (d .next .gathered) in
       let next : Hub = record { line = halvesBehind a (l .halves) n; gathering = g } in
@@ -90,51 +91,52 @@ module _ {hub : Hub} {line : List ℕ} {e : Event} {l : Listened} {line′ : Lis
       let long : a ≡ true → length (d .next .last) ≡ n = λ q. rw (k₁ .last-is, q) (length-unmarked (receivedIn (l .halves) line′ n) ∙ size q) in
       record {
         told-is = ap (λ (s : Stepped). s .told) (settles .is) ∙ (joins .told-is ∙ ap (λ (x : Done Joiner Output). toldOf (x .told)) (sym t));
-        hub-is = hub-is ∙ sym (rw t (rw (← control-behind k a n (d .next .last) long) refl));
+        hub-is = hub-is ∙ sym (simp loud (rw (t, ← control-behind k a n (d .next .last) long) refl));
         next = rw (hub-is, joins .gather-is, t, line-behind k a n idle, join-back (d .next .barred) (d .next .gathered) (keptIn (next .line) line′) gather (k₁ .few), last-is) refl;
         line-is = k .buffer-is;
         gather-is = joins .gather-is ∙ ap (λ (x : Done Joiner Output). over (bytesOf (x .next .gathered)) gather) (sym t);
         message-is = joins .message-is ∙ ap (λ (x : Done Joiner Output). over (messageOf (x .told)) message) (sym t);
       }
 
-  -- Where no packet was accepted, nothing but the line has changed.
-  stayed : {gather message : List ℕ} {r : Stepped} {g : Gathering} {ts : List Output} → length gather ≡ messageSize → accepts ts ≡ false → messageOf ts ≡ [] →
-      through heardStep (joinerAt hub line gather) (framerAt hub line e .told) ≡ record { next = joinerAt hub line gather; told = ts } →
-      Gatherings (hub .gathering) g →
-      Stays (l .halves) g (toldOf ts) r →
-      Steps hub line gather message e r line′ gather message
-  unfolding accepts
-  stayed {gather} {message} {g = g} {ts = ts} room a m t sound stays =
-      settled {n = 0} t
-      (record { few = few-joiner (soundOf (hub .gathering)) (keptIn (hub .line) line) gather room; last-is = simp a })
+  -- Where the framer told nothing, only its own part has changed.
+  pub step-nothing : {gather message : List ℕ} {r : Stepped} → l .found ≡ Nothing → Stays (l .halves) (hub .gathering) told.Nothing r → Steps hub line gather message e r line′ gather message
+  unfolding framed stateOf controlAfter tellsNothing silent through accepts toldOf messageOf joinerOf
+  step-nothing {gather} {message} q stays =
+      let t = listened-nothing k q in
+      record {
+        told-is = ap (λ (s : Stepped). s .told) (stays .is) ∙ rw t refl;
+        hub-is = ap (λ (s : Stepped). s .hub) (stays .is) ∙ rw (t, k .is) refl;
+        next = rw (stays .is, t, line-listened k, kept-listened k) refl;
+        line-is = k .buffer-is;
+        gather-is = sym (rw t (gathered-over (soundOf (hub .gathering)) gather));
+        message-is = sym (rw t (over-nil message));
+      }
+
+  -- Where the framer refused, what is gathered has been put in order too.
+  pub step-refused : {gather message : List ℕ} {r : Stepped} {g : Gathering} {x : Refusal} → length gather ≡ messageSize → l .found ≡ Refused x → Gatherings (hub .gathering) g →
+      Stays (l .halves) g (told.Refused x) r → Steps hub line gather message e r line′ gather message
+  unfolding tellsNothing silent heardStep accepts toldOf
+  step-refused {gather} {message} {g = g} {x = x} room q sound stays =
+      let t = listened-refused k q in
+      settled {n = 0}
+      (rw t refl)
+      (rw t (through-one heardStep (joinerAt hub line gather) (noPacket x)))
+      (record { few = few-joiner (soundOf (hub .gathering)) (keptIn (hub .line) line) gather room; last-is = refl })
       (omega arith)
       (λ z. never (cc))
       (λ z. never (cc))
-      (still (soundOf (hub .gathering)) (keptIn (hub .line) line) gather message ts (rw (sound .is) at (sound .sound)) room refl refl m (record { is = refl }))
-      (record { is = simp (a, sym (sound .is)) (stays .is) })
-
-  pub step-nothing : {gather message : List ℕ} {r : Stepped} {g : Gathering} → length gather ≡ messageSize → l .found ≡ Nothing → Gatherings (hub .gathering) g →
-      Stays (l .halves) g told.Nothing r → Steps hub line gather message e r line′ gather message
-  unfolding through accepts messageOf toldOf
-  step-nothing room q sound stays = stayed {ts = []} room refl refl (rw (listened-nothing k q) refl) sound stays
-
-  pub step-refused : {gather message : List ℕ} {r : Stepped} {g : Gathering} {x : Refusal} → length gather ≡ messageSize → l .found ≡ Refused x → Gatherings (hub .gathering) g →
-      Stays (l .halves) g (told.Refused x) r → Steps hub line gather message e r line′ gather message
-  unfolding heardStep accepts toldOf
-  step-refused {gather} {x = x} room q sound stays =
-      stayed {ts = refusing x} room refl (refusing-hands-out x)
-      (rw (listened-refused k q) (through-one heardStep (joinerAt hub line gather) (noPacket x)))
-      sound
-      stays
+      (still (soundOf (hub .gathering)) (keptIn (hub .line) line) gather message (refusing x) (rw (sound .is) at (sound .sound)) room refl refl (refusing-hands-out x) (record { is = refl }))
+      (record { is = rw (sound .is) at (stays .is) })
 
   pub step-packet : {gather message gather′ message′ : List ℕ} {r : Stepped} {g : Gathering} {h : Head} → length gather ≡ messageSize → l .found ≡ Packet h → Gatherings (hub .gathering) g →
       Receives (l .halves) g (h .length) line′ gather message r gather′ message′ → Steps hub line gather message e r line′ gather′ message′
-  unfolding heardStep
+  unfolding tellsNothing silent heardStep
   step-packet {gather} {message} {gather′} {message′} {r} {g} {h} room q sound receives =
       let n = h .length in
       let w = listened-packet k q in
       let most = w .most in
       settled
+      (rw (w .told-is) refl)
       (rw (w .told-is) (through-one heardStep (joinerAt hub line gather) (packet (receivedIn (l .halves) line′ n))))
       (kept (few-joiner (soundOf (hub .gathering)) (keptIn (hub .line) line) gather room) (packet-outcome (joinerAt hub line gather) (receivedIn (l .halves) line′ n)))
       most

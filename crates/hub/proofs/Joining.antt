@@ -37,13 +37,22 @@ module _ (g : Gathering) (gather : List ℕ) where
   other-gathered : (code : ℕ) → otherType (gatheredOf g gather) code ≡ pick (g .begun) (not (eqb (g .code) code)) false
   other-gathered code = other-by code (g .begun) refl
 
+  over-by : (d : Bool) → g .begun ≡ d → over (bytesOf (gatheredOf g gather)) gather ≡ gather
+  unfolding gatheredOf bytesOf
+  over-by true e = simp e (over-take (g .count) gather)
+  over-by false e = simp e (over-nil gather)
+
+  -- What is gathered is written back over itself.
+  pub gathered-over : over (bytesOf (gatheredOf g gather)) gather ≡ gather
+  gathered-over = over-by (g .begun) refl
+
   module _ (s : Sound g) where
     bytes-by : (d : Bool) → g .begun ≡ d → bytesOf (gatheredOf g gather) ≡ take (g .count) gather
     unfolding bytesOf gatheredOf
     bytes-by true e = simp e
     bytes-by false e = simp (e, s .closed e .1)
 
-    pub bytes-gathered : bytesOf (gatheredOf g gather) ≡ take (g .count) gather
+    bytes-gathered : bytesOf (gatheredOf g gather) ≡ take (g .count) gather
     bytes-gathered = bytes-by (g .begun) refl
 
 gathering-by : (barred begun : Bool) (code count : ℕ) (gather : List ℕ) → Sound (record { barred = barred; begun = begun; code = code; count = count }) → length gather ≡ messageSize →
@@ -52,7 +61,7 @@ unfolding gatheredOf
 gathering-by barred true code count gather s l = rw (length-take-le count gather (let m = s .few in omega arith)) refl
 gathering-by barred false code count gather s l = rw (s .closed refl .0, s .closed refl .1) refl
 
-pub gathering-back : (g : Gathering) (gather : List ℕ) → Sound g → length gather ≡ messageSize → gatheringOf (g .barred) (gatheredOf g gather) ≡ g
+gathering-back : (g : Gathering) (gather : List ℕ) → Sound g → length gather ≡ messageSize → gatheringOf (g .barred) (gatheredOf g gather) ≡ g
 gathering-back g gather s l = gathering-by (g .barred) (g .begun) (g .code) (g .count) gather s l
 
 -- ---- steps that write nothing
@@ -66,7 +75,7 @@ still g last gather message outs s l e n m u =
     (record {
       told-is = rw (u .is) n;
       gathering-is = rw (u .is) (sym (gathering-back g gather s l));
-      gather-is = sym (rw (bytes-gathered g gather s) (over-take (g .count) gather));
+      gather-is = sym (gathered-over g gather);
       message-is = sym (rw m (over-nil message));
     })
 

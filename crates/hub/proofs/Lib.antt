@@ -4,7 +4,6 @@ pub mod Hearing
 pub mod Joining
 pub mod Outcomes
 pub mod Refusing
-pub mod Short
 pub mod ShortWay
 pub mod Theorems
 pub mod Unique

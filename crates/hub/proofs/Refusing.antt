@@ -2,10 +2,10 @@
 use Prim.Native.Nat.{ℕ}
 use mathlib.Core.Path.{_≡_, refl, sym, ap, _∙_}
 use mathlib.Core.Bool.{Bool, true, false}
-use mathlib.Core.List.{List, [], _∷_}
+use mathlib.Core.List.{List}
 use lib.Dec.{eqb}
 use Rattle.words.specs.Lists.{pick, over}
-use Rattle.words.proofs.Lists.{over-nil, over-take, never}
+use Rattle.words.proofs.Lists.{over-nil, never}
 use Rattle.packet.specs.Refusals.{numberOf, nakBytes}
 use Rattle.packet.specs.declared.Refusal.{Refusal}
 use Rattle.packet.specs.declared.Refusal.the-variants.{Room}
@@ -17,21 +17,16 @@ use Rattle.framer.specs.declared.Event.{Event}
 use Rattle.framer.proofs.Touching.{line-kept}
 use Rattle.hub.specs.Joiner.{none, Joiner, refusing, bytesOf}
 use Rattle.hub.specs.Hub.{heardStep, hubStep}
-use Rattle.hub.specs.Promises.{toldOf, answerOf, messageOf, soundOf, gatheredOf, joinerOf, stateOf, tooSmall, Hears}
+use Rattle.hub.specs.Promises.{toldOf, soundOf, joinerOf, stateOf, tooSmall, Hears}
 use Rattle.hub.specs.Refused.{HubRefuses}
-use Rattle.hub.specs.declared.Gathering.{Gathering}
 use Rattle.hub.specs.declared.Hub.{Hub}
 use Rattle.hub.specs.declared.Taken.{Taken}
 use Rattle.hub.specs.declared.Told.the-variants as told
 use Rattle.hub.proofs.Control.{refusing-answers, refusing-hands-out}
+use Rattle.hub.proofs.Joining.{gathered-over}
 use Rattle.hub.proofs.Theorems.{happened, refusal-named, refusal-changes, refusal-cause}
 
--- ---- what is gathered is written back over itself
-
-gathered-over : (g : Gathering) (gather : List ℕ) (begun : Bool) → g .begun ≡ begun → over (bytesOf (gatheredOf g gather)) gather ≡ gather
-unfolding gatheredOf bytesOf
-gathered-over g gather true e = simp e (over-take (g .count) gather)
-gathered-over g gather false e = simp e (over-nil gather)
+-- ---- the gather buffer
 
 dropped-over : (x : Refusal) (j : Joiner) (gather : List ℕ) (bars : Bool) → eqb (numberOf x) 10 ≡ bars → over (bytesOf (j .gathered)) gather ≡ gather →
     over (bytesOf (pick (eqb (numberOf x) 10) (record { barred = true; last = j .last; gathered = none }) j .gathered)) gather ≡ gather
@@ -44,7 +39,7 @@ module _ (hub : Hub) (line gather : List ℕ) (e : Event) {x : Refusal} (q : hub
   unfolding hubStep framed stateOf joinerOf
   gather-over =
       rw (happened (stateOf hub line gather) e q .next-is)
-      (dropped-over x (stateOf hub line gather .core) gather (eqb (numberOf x) 10) refl (gathered-over (soundOf (hub .gathering)) gather (soundOf (hub .gathering) .begun) refl))
+      (dropped-over x (stateOf hub line gather .core) gather (eqb (numberOf x) 10) refl (gathered-over (soundOf (hub .gathering)) gather))
 
 -- ---- a refused event
 

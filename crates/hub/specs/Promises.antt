@@ -14,11 +14,10 @@ use Rattle.packet.specs.Sizes.{answerSize, messageSize}
 use Rattle.packet.specs.declared.Reply.the-variants.{Ack}
 use Rattle.packet.specs.declared.Refusal.the-variants as refusal
 use Rattle.framer.specs.Behind.{framed}
-use Rattle.framer.specs.Halves.{lineIn, keptIn, receivedIn, idleHalves, listenedOf, bufferAfter, acceptedOf, goesOn, Listens}
+use Rattle.framer.specs.Halves.{lineIn, keptIn, receivedIn, idleHalves, listenedOf, bufferAfter, tellsNothing, acceptedOf}
 use Rattle.framer.specs.declared.Halves.{Halves}
 use Rattle.framer.specs.declared.Event.{Event}
 use Rattle.framer.specs.declared.Event.the-variants.{Byte, CharacterGap, MessageGap}
-use Rattle.framer.specs.declared.Found.the-variants.{Nothing}
 use Rattle.hub.specs.Joiner.{Gathered, none, some, Joiner, Output, added, repeated, handed, refused, answered, bytesOf, adding}
 use Rattle.hub.specs.Hub.{HubState, packetStep, heardStep, hubStep}
 use Rattle.hub.specs.declared.Gathering.{Gathering}
@@ -28,8 +27,6 @@ use Rattle.hub.specs.declared.Told.the-variants as told
 use Rattle.hub.specs.declared.Joined.{Joined}
 use Rattle.hub.specs.declared.Stepped.{Stepped}
 use Rattle.hub.specs.declared.Taken.{Taken}
-use Rattle.hub.specs.declared.Going.{Going}
-use Rattle.hub.specs.declared.Going.the-variants.{On, Left}
 
 -- ---- the answers that are enums
 
@@ -101,11 +98,13 @@ acceptsName (told.Refused r) = false
 unfoldable pub accepts : List Output → Bool
 accepts os = acceptsName (toldOf os)
 
+-- Where the framer tells nothing, only its own part of the control value is written: what is gathered stays as it was read, also a value that no
+-- run leaves, which is still read as what it stands for.
 unfoldable pub controlAfter : Hub → List ℕ → Event → Done HubState Output → Hub
 controlAfter hub line e d =
     record {
       line = pick (accepts (d .told)) (acceptedOf (listenedOf (hub .line) line e .halves) (length (d .next .core .last))) (listenedOf (hub .line) line e .halves);
-      gathering = gatheringOf (d .next .core .barred) (d .next .core .gathered);
+      gathering = pick (tellsNothing (hub .line) line e) (hub .gathering) (gatheringOf (d .next .core .barred) (d .next .core .gathered));
     }
 
 -- A message gap clears the control value.
@@ -231,10 +230,3 @@ nameBytes (told.Refused r) = nakBytes host r
 pub record Writes (bytes answer : List ℕ) (r : ℕ) (answer′ : List ℕ) : Type 0 where
   pub is : r ≡ length bytes
   pub answer-is : answer′ ≡ over bytes answer
-
--- Where the framer goes on, as `listen` promises, and nothing else changes; else nothing is done. A short way takes its event without a test
--- for number 13: where it goes on it leaves what `hear` leaves with rooms of full size (`short-way-hears`), and whoever lends rooms tests them.
-pub data GoesOn (hub : Hub) (line : List ℕ) (e : Event) : Going → List ℕ → Type 0 where
-  on : {halves : Halves} {g : Gathering} {line′ : List ℕ} → goesOn (hub .line) line e ≡ true → Listens (hub .line) line e (record { halves = halves; found = Nothing }) line′ →
-      Gatherings (hub .gathering) g → GoesOn hub line e (On (record { line = halves; gathering = g })) line′
-  left : {line′ : List ℕ} → goesOn (hub .line) line e ≡ false → line′ ≡ line → GoesOn hub line e Left line′

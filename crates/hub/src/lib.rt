@@ -18,7 +18,7 @@ ghost use Rattle.packet.specs.Refusals.{nakBytes};
 ghost use Rattle.packet.specs.Sizes.{headSize, bodySize, messageSize};
 ghost use Rattle.hub.specs.Joiner.{joinStep};
 ghost use Rattle.hub.specs.Hub.{decodeStep, packetStep};
-ghost use Rattle.hub.specs.Promises.{hubAnswerSize, Closed, SwitchedOn, Hears, GoesOn, NoRoom, Cleared, nameBytes, Writes, Steps, Stays, Receives, Settles, Accepts, Sound, Gatherings, Within, Unchanged, Bars, OtherType, Joins, Adds, Keeps, HandsOut, joinerOf};
+ghost use Rattle.hub.specs.Promises.{hubAnswerSize, Closed, SwitchedOn, Hears, NoRoom, Cleared, nameBytes, Writes, Steps, Stays, Receives, Settles, Accepts, Sound, Gatherings, Within, Unchanged, Bars, OtherType, Joins, Adds, Keeps, HandsOut, joinerOf};
 
 // What every event asks of the answer room.
 pub const HUB_ANSWER_SIZE: usize = packet::ANSWER_SIZE;
@@ -117,26 +117,6 @@ pub fn hear(
     }
 }
 
-// What a byte came to that neither begins nor ends a packet: the hub goes on, with nothing to tell. Any other event is left.
-pub enum Going {
-    On(Hub),
-    Left,
-}
-
-// The short way of `hear`, for most bytes of a line. It is lent no rooms and has no test for number 13, so it stands for an event
-// with rooms of full size: whoever lends rooms tests them first.
-pub fn go_on(hub: Hub, line: &mut [u8; LINE_SIZE], event: Event) -> Going
-    ensures { λ r. ⌜ GoesOn hub (now (line .entry)) event r (now (line .exit)) ⌝ }
-{
-    match framer::go_on(hub.line, line, event) {
-        framer::Going::On(halves) => Going::On(Hub {
-            line: halves,
-            gathering: sound(hub.gathering),
-        }),
-        framer::Going::Left => Going::Left,
-    }
-}
-
 // The event is not taken.
 fn no_room(hub: Hub) -> Taken
     ensures { λ r. ⌜ NoRoom hub r ⌝ }
@@ -187,7 +167,7 @@ fn refuse(refusal: Refusal, answer: &mut [u8]) -> usize
     packet::size_of(packet::nak(answer, HOST, refusal))
 }
 
-// The framer takes the event; a packet goes on to the joining.
+// The framer takes the event; a packet goes on to the joining. Where it tells nothing, what is gathered is left as it was read.
 fn step(
     hub: Hub,
     line: &mut [u8; LINE_SIZE],
@@ -201,11 +181,17 @@ fn step(
     let listened = framer::listen(hub.line, line, event);
     let halves = listened.halves;
     let found = listened.found;
-    let gathering = sound(hub.gathering);
     match found {
-        Found::Nothing => stay(halves, gathering, Told::Nothing),
-        Found::Refused(refusal) => stay(halves, gathering, Told::Refused(refusal)),
-        Found::Packet(head) => received(halves, gathering, head.length, line, gather, message),
+        Found::Nothing => stay(halves, hub.gathering, Told::Nothing),
+        Found::Refused(refusal) => stay(halves, sound(hub.gathering), Told::Refused(refusal)),
+        Found::Packet(head) => received(
+            halves,
+            sound(hub.gathering),
+            head.length,
+            line,
+            gather,
+            message,
+        ),
     }
 }
 

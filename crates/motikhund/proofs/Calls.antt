@@ -1,28 +1,29 @@
 -- What each exported call leaves, from what the library's call and the two translations promise. Assumes nothing.
-use Prim.Native.Nat.{ℕ, _≤_}
+use Prim.Native.Nat.{ℕ, _≤_, _<_}
 use mathlib.Core.Path.{_≡_, refl, sym, _∙_}
 use mathlib.Core.Bool.{Bool, true, false}
 use mathlib.Core.List.{List, [], _∷_}
 use native.Mathlib.Omega.{arith}
 use lib.ListN.{length, drop}
+use borrow.Author.Tests.{le-leb, lt-leb}
 use Rattle.words.specs.Lists.{Wide, over}
 use Rattle.words.proofs.Lists.{never}
 use Rattle.packet.specs.declared.Refusal.{Refusal}
 use Rattle.packet.specs.Promises as packet
-use Rattle.packet.specs.Sizes.{packetSize, messageSize}
+use Rattle.packet.specs.Sizes.{packetSize, answerSize, messageSize}
 use Rattle.packet.specs.declared.Checked.{Checked}
 use Rattle.packet.specs.declared.Reply.{Reply}
 use Rattle.packet.specs.declared.Built.{Built}
 use Rattle.framer.specs.Promises as framing
+use Rattle.framer.specs.Halves as halves
 use Rattle.framer.specs.declared.Event.{Event}
 use Rattle.framer.specs.declared.Framer.{Framer}
 use Rattle.framer.specs.declared.Framed.{Framed}
 use Rattle.hub.specs.Promises as joining
 use Rattle.hub.specs.declared.Hub.{Hub}
 use Rattle.hub.specs.declared.Taken.{Taken}
-use Rattle.hub.specs.declared.Going.{Going}
-use Rattle.hub.specs.declared.Going.the-variants.{On, Left}
-use Rattle.hub.proofs.Short.{going-hears, going-left}
+use Rattle.framer.specs.declared.Going.{Going}
+use Rattle.framer.specs.declared.Going.the-variants.{On, Woken, Left}
 use Rattle.packet.specs.Opcodes.{host}
 use Rattle.sender.specs.Promises as sending
 use Rattle.sender.specs.declared.Heard.{Heard}
@@ -38,11 +39,11 @@ use Rattle.reader.specs.Promises as reading
 use Rattle.reader.specs.declared.Reader.{Reader}
 use Rattle.reader.specs.declared.Taken.{Taken as Commanded}
 use Rattle.reader.specs.declared.Started.{Started}
-use Rattle.motikhund.specs.Lent.{Need, atLeast, Lacking, here, there, Enough, none, more, Asks, KeptUnless, Kept, Made}
-use Rattle.motikhund.specs.Control.{framerIn, framerBytes, hubIn, hubBytes, senderIn, senderBytes, readerIn, readerBytes, FramerIn, PutsFramer, HubIn, PutsHub, SenderIn, PutsSender, ReaderIn, PutsReader, Switches}
-use Rattle.motikhund.specs.Numbers.{noHead, EventOf, HeardOf, HeardNumber, ReplyOf, CheckedNumber, CheckedValues, FoundNumber, FoundValues, BuiltNumber, HubNumber, HubValues, OutcomeNumber, OutcomeValue, isRefused, OutcomeRefused, waitsNumber, ReaderNumber, ReaderValues}
-use Rattle.motikhund.specs.Promises.{PacketChecks, PacketBuilds, PacketAnswers, FramerHears, HubHears, HubTakes, HubGoesOn, Brings, SenderStarts, SenderHears, SenderWaits, SenderHeeds, FreshReader, ReaderStarts, ReaderTimesOut, ReaderHears, ReaderValue, ReaderSwitches}
-use Rattle.motikhund.proofs.Reading.{framer-back, hub-back, sender-back, reader-back}
+use Rattle.motikhund.specs.Lent.{Need, atLeast, Lacking, here, there, Enough, none, more, Asks, IfNamed, KeptUnless, Kept, Made}
+use Rattle.motikhund.specs.Control.{numberIn, numberBytes, flagIn, framerIn, framerBytes, hubIn, hubBytes, senderIn, senderBytes, readerIn, readerBytes, FramerIn, PutsNumber, PutsFramer, HubIn, PutsHub, SenderIn, PutsSender, ReaderIn, PutsReader, Switches}
+use Rattle.motikhund.specs.Numbers.{isEvent, isReply, noHead, EventOf, HeardOf, HeardNumber, ReplyOf, CheckedNumber, CheckedValues, FoundNumber, FoundValues, BuiltNumber, HubNumber, HubValues, OutcomeNumber, OutcomeValue, isRefused, OutcomeRefused, waitsNumber, ReaderNumber, ReaderValues}
+use Rattle.motikhund.specs.Promises.{PacketChecks, PacketBuilds, PacketAnswers, FramerHears, GoesOn, HubHears, Brings, SenderStarts, SenderHears, SenderWaits, SenderHeeds, FreshReader, ReaderStarts, ReaderTimesOut, ReaderHears, ReaderValue, ReaderSwitches}
+use Rattle.motikhund.proofs.Reading.{number-back, framer-back, hub-back, sender-back, reader-back}
 
 -- ---- what is lent
 
@@ -58,7 +59,34 @@ module _ {needs : List Need} {Refuses Takes : Type 0} where
   asks-enough : Enough needs → Takes → Asks needs Refuses Takes
   asks-enough e t = record { refuses = λ k. absurd (lacking-enough k e); takes = λ _. t }
 
+module _ {named : Bool} {Nothing Takes : Type 0} where
+  passed : named ≡ false → Nothing → IfNamed named Nothing Takes
+  passed e n = record { passes = λ _. n; takes = λ f. never (cc) }
+
+  taken-by : named ≡ true → Takes → IfNamed named Nothing Takes
+  taken-by e t = record { passes = λ f. never (cc); takes = λ _. t }
+
+is-event : {n : ℕ} → n ≤ 257 → isEvent n ≡ true
+unfolding isEvent
+is-event {n} l = le-leb n 257 l
+
+no-event : {n : ℕ} → 257 < n → isEvent n ≡ false
+unfolding isEvent
+no-event {n} l = lt-leb n 257 l
+
+is-reply : {n : ℕ} → n ≤ 256 → isReply n ≡ true
+unfolding isReply
+is-reply {n} l = le-leb n 256 l
+
+no-reply : {n : ℕ} → 256 < n → isReply n ≡ false
+unfolding isReply
+no-reply {n} l = lt-leb n 256 l
+
 -- ---- control values that were written
+
+number-kept : {n : ℕ} {control control′ : List ℕ} → PutsNumber n control control′ → Kept numberIn numberBytes n control control′
+unfolding over
+number-kept {n} {control} k = record { control-is = k .is; reads = rw (k .is) (number-back n (drop (length (numberBytes n)) control) (k .small)) }
 
 framer-kept : {f : Framer} {control control′ : List ℕ} → PutsFramer f control control′ → Kept framerIn framerBytes f control control′
 unfolding over
@@ -134,18 +162,36 @@ pub packet-builds : {room carried room′ : List ℕ} {opcode source status r si
     BuiltNumber made r → packet.SizeOf made size → PacketBuilds room opcode source status carried r room′ size
 packet-builds {made = made} builds told value = record { made = made; builds = builds; told = told .is; value = value .is }
 
-pub packet-answers : {room room′ : List ℕ} {source n r size : ℕ} {reply : Reply} {made : Built} → ReplyOf n reply → packet.Answer room source reply made room′ →
-    BuiltNumber made r → packet.SizeOf made size → PacketAnswers room source n r room′ size
-packet-answers {made = made} reply answers told value = record { made = made; answers = rw (reply .is) at answers; told = told .is; value = value .is }
+pub answer-13 : {room : List ℕ} {source n : ℕ} → length room < answerSize → PacketAnswers room source n 13 room 0
+answer-13 l = record { asks = asks-13 (here l) (refl, refl, refl) }
+
+pub answer-none : {room : List ℕ} {source n : ℕ} → answerSize ≤ length room → 256 < n → PacketAnswers room source n 0 room 0
+answer-none l m = record { asks = asks-enough (more l none) (passed (no-reply m) (refl, refl, refl)) }
+
+pub packet-answers : {room room′ : List ℕ} {source n r size : ℕ} {reply : Reply} {made : Built} → answerSize ≤ length room → n ≤ 256 → ReplyOf n reply →
+    packet.Answer room source reply made room′ →
+    BuiltNumber made r →
+    packet.SizeOf made size →
+    PacketAnswers room source n r room′ size
+packet-answers {made = made} l m reply answers told value =
+    record {
+      asks =
+          asks-enough (more l none)
+          (taken-by (is-reply m) (record { made = made; answers = rw (reply .is) at answers; told = told .is; value = value .is }));
+    }
 
 -- ---- the framer
 
 pub framer-13 : {control line : List ℕ} {n : ℕ} → Lacking (atLeast 9 control ∷ atLeast packetSize line ∷ []) → FramerHears control line n 13 control line noHead
 framer-13 k = record { asks = asks-13 k (refl, refl, refl, refl) }
 
+pub framer-none : {control line : List ℕ} {n : ℕ} → 9 ≤ length control → packetSize ≤ length line → 257 < n → FramerHears control line n 0 control line noHead
+framer-none c l m = record { asks = asks-enough (more c (more l none)) (passed (no-event m) (refl, refl, refl, refl)) }
+
 pub framer-hears : {control line control′ line′ head : List ℕ} {n r : ℕ} {f : Framer} {e : Event} {framed : Framed} →
     9 ≤ length control →
     packetSize ≤ length line →
+    n ≤ 257 →
     FramerIn control f →
     EventOf n e →
     framing.Frames f line e framed line′ →
@@ -153,12 +199,26 @@ pub framer-hears : {control line control′ line′ head : List ℕ} {n r : ℕ}
     FoundValues (framed .found) head →
     FoundNumber (framed .found) r →
     FramerHears control line n r control′ line′ head
-framer-hears {framed = framed} c l before-is event frames put values told =
+framer-hears {framed = framed} c l m before-is event frames put values told =
     record {
       asks =
           asks-enough (more c (more l none))
-          (record { framed = framed; frames = rw (before-is .is, event .is) at frames; told = told .is; values = values .is; kept = framer-kept put });
+          (taken-by (is-event m)
+          (record { framed = framed; frames = rw (before-is .is, event .is) at frames; told = told .is; values = values .is; kept = framer-kept put }));
     }
+
+-- ---- the short way
+
+module _ {front line line′ : List ℕ} {n : ℕ} {f : Framer} {e : Event} {going : Going} (before-is : FramerIn front f) (event : EventOf n e)
+    (goes : halves.GoesOn f (flagIn front 9) line e going line′) where
+  pub went-on : {front′ : List ℕ} {count : ℕ} → going ≡ On count → PutsNumber count front front′ → GoesOn front line n true front′ line′
+  went-on q put = record { going = going; goes = rw (before-is .is, event .is) at goes; told = rw q refl; front-is = rw q (number-kept put) }
+
+  pub went-awake : {front′ : List ℕ} {next : Framer} → going ≡ Woken → framing.Idle next → PutsFramer next front front′ → GoesOn front line n true front′ line′
+  went-awake q idle put = record { going = going; goes = rw (before-is .is, event .is) at goes; told = rw q refl; front-is = rw q (framer-kept (rw (idle .is) at put)) }
+
+  pub was-left : going ≡ Left → GoesOn front line n false front line′
+  was-left q = record { going = going; goes = rw (before-is .is, event .is) at goes; told = rw q refl; front-is = rw q refl }
 
 -- ---- the hub
 
@@ -166,31 +226,26 @@ pub hub-13 : {control line gather answer message : List ℕ} {n : ℕ} → Lacki
     HubHears control line gather answer message n 13 control line gather answer message (0 ∷ 0 ∷ 0 ∷ [])
 hub-13 k = record { asks = asks-13 k (refl, refl, refl, refl, refl, refl, refl) }
 
-module _ {control : List ℕ} {n : ℕ} {hub : Hub} {e : Event} (before-is : HubIn control hub) (event : EventOf n e) where
-  pub hub-takes : {line gather answer message control′ line′ gather′ answer′ message′ values : List ℕ} {r : ℕ} {taken : Taken} →
+module _ {control line gather answer message : List ℕ} {n : ℕ} (c : 29 ≤ length control) (a : joining.hubAnswerSize ≤ length answer) (m : messageSize ≤ length message) where
+  pub hub-none : 257 < n → HubHears control line gather answer message n 0 control line gather answer message (0 ∷ 0 ∷ 0 ∷ [])
+  hub-none l = record { asks = asks-enough (more c (more a (more m none))) (passed (no-event l) (refl, refl, refl, refl, refl, refl, refl)) }
+
+  pub hub-hears : {control′ line′ gather′ answer′ message′ values : List ℕ} {r : ℕ} {hub : Hub} {e : Event} {taken : Taken} →
+      n ≤ 257 →
+      HubIn control hub →
+      EventOf n e →
       joining.Hears hub line gather answer message e taken line′ gather′ answer′ message′ →
       PutsHub (taken .hub) control control′ →
       HubValues (taken .told) (taken .answer) values →
       HubNumber (taken .told) r →
-      HubTakes control line gather answer message n r control′ line′ gather′ answer′ message′ values
-  hub-takes {taken = taken} hears put values told =
-      record { taken = taken; hears = rw (before-is .is, event .is) at hears; told = told .is; values-are = values .is; kept = hub-kept put }
-
-  module _ {line line₁ gather answer message : List ℕ} {going : Going} (c : 29 ≤ length control) (a : joining.hubAnswerSize ≤ length answer) (m : messageSize ≤ length message)
-      (goes : joining.GoesOn hub line e going line₁) where
-    pub hub-goes-on : {next : Hub} {control′ values : List ℕ} {r : ℕ} → going ≡ On next → HubGoesOn next gather control r control′ values →
-        HubHears control line gather answer message n r control′ line₁ gather answer message values
-    hub-goes-on q k =
-        record {
-          asks =
-              asks-enough (more c (more a (more m none)))
-              (hub-takes (going-hears goes q (k .long) a m) (k .puts) (record { is = k .values-are }) (record { is = k .told }));
-        }
-
-    pub hub-hears : {control′ line′ gather′ answer′ message′ values : List ℕ} {r : ℕ} → going ≡ Left →
-        HubTakes control line₁ gather answer message n r control′ line′ gather′ answer′ message′ values →
-        HubHears control line gather answer message n r control′ line′ gather′ answer′ message′ values
-    hub-hears q k = record { asks = asks-enough (more c (more a (more m none))) (rw (going-left goes q) at k) }
+      HubHears control line gather answer message n r control′ line′ gather′ answer′ message′ values
+  hub-hears {taken = taken} l before-is event hears put values told =
+      record {
+        asks =
+            asks-enough (more c (more a (more m none)))
+            (taken-by (is-event l)
+            (record { taken = taken; hears = rw (before-is .is, event .is) at hears; told = told .is; values-are = values .is; kept = hub-kept put }));
+      }
 
 -- ---- the sender
 
@@ -281,26 +336,29 @@ reader-times-out {started = started} c l before-is times put value told =
     record { asks = asks-enough (more c (more l none)) (record { started = started; times = rw (before-is .is) at times; brings = brings value told; kept = reader-kept put }) }
 
 pub reader-13 : {control line answers message answer copy : List ℕ} {n : ℕ} → Lacking (atLeast 83 control ∷ atLeast 25 answer ∷ atLeast 257 copy ∷ []) →
-    ReaderHears control line answers message answer copy n 13 control line answers answer copy (0 ∷ 0 ∷ 0 ∷ 0 ∷ 0 ∷ 0 ∷ [])
+    ReaderHears control line answers message answer copy n 13 control line answers answer copy (0 ∷ 0 ∷ 0 ∷ 0 ∷ 0 ∷ [])
 reader-13 k = record { asks = asks-13 k (refl, refl, refl, refl, refl, refl, refl) }
 
-pub reader-hears : {control line answers message answer copy control′ line′ answers′ answer′ copy′ values : List ℕ} {n r : ℕ} {before : Reader} {e : Event} {taken : Commanded} →
-    83 ≤ length control →
-    25 ≤ length answer →
-    257 ≤ length copy →
-    ReaderIn control before →
-    EventOf n e →
-    reading.Hears before line answers message answer copy e taken line′ answers′ answer′ copy′ →
-    PutsReader (taken .reader) control control′ →
-    ReaderValues (taken .told) (taken .answer) (taken .outcome) values →
-    ReaderNumber (taken .told) r →
-    ReaderHears control line answers message answer copy n r control′ line′ answers′ answer′ copy′ values
-reader-hears {taken = taken} c a l before-is event hears put values told =
-    record {
-      asks =
-          asks-enough (more c (more a (more l none)))
-          (record { taken = taken; hears = rw (before-is .is, event .is) at hears; told = told .is; values-are = values .is; kept = reader-kept put });
-    }
+module _ {control line answers message answer copy : List ℕ} {n : ℕ} (c : 83 ≤ length control) (a : 25 ≤ length answer) (l : 257 ≤ length copy) where
+  pub reader-none : 257 < n → ReaderHears control line answers message answer copy n 0 control line answers answer copy (0 ∷ 0 ∷ 0 ∷ 0 ∷ 0 ∷ [])
+  reader-none m = record { asks = asks-enough (more c (more a (more l none))) (passed (no-event m) (refl, refl, refl, refl, refl, refl, refl)) }
+
+  pub reader-hears : {control′ line′ answers′ answer′ copy′ values : List ℕ} {r : ℕ} {before : Reader} {e : Event} {taken : Commanded} →
+      n ≤ 257 →
+      ReaderIn control before →
+      EventOf n e →
+      reading.Hears before line answers message answer copy e taken line′ answers′ answer′ copy′ →
+      PutsReader (taken .reader) control control′ →
+      ReaderValues (taken .told) (taken .answer) (taken .outcome) values →
+      ReaderNumber (taken .told) (taken .outcome) r →
+      ReaderHears control line answers message answer copy n r control′ line′ answers′ answer′ copy′ values
+  reader-hears {taken = taken} m before-is event hears put values told =
+      record {
+        asks =
+            asks-enough (more c (more a (more l none)))
+            (taken-by (is-event m)
+            (record { taken = taken; hears = rw (before-is .is, event .is) at hears; told = told .is; values-are = values .is; kept = reader-kept put }));
+      }
 
 pub value-13 : {control : List ℕ} {number : ℕ} → Lacking (atLeast 83 control ∷ []) → ReaderValue control number 13 0
 value-13 k = record { asks = asks-13 k (refl, refl) }

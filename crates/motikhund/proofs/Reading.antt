@@ -94,7 +94,7 @@ half-back n rest =
     let e : n / 16777216 ≡ n / 65536 / 256 = omega arith in
     rw (e, pair-back n, pair-back (n / 65536)) (omega arith)
 
-number-back : (n : ℕ) (rest : List ℕ) → Small n → numberIn (numberBytes n ++ rest) ≡ n
+pub number-back : (n : ℕ) (rest : List ℕ) → Small n → numberIn (numberBytes n ++ rest) ≡ n
 unfolding halfBytes numberIn numberBytes
 number-back n rest h = rw (half-back n (halfBytes (n / 4294967296) ++ rest), half-back (n / 4294967296) rest) (omega arith)
 
@@ -139,7 +139,7 @@ table-back t rest k =
     refl)
 
 -- Behind a front of n bytes.
-past : (n i : ℕ) (p q : List ℕ) → length p ≡ n → getD (p ++ q) (n + i) 0 ≡ getD q i 0
+pub past : (n i : ℕ) (p q : List ℕ) → length p ≡ n → getD (p ++ q) (n + i) 0 ≡ getD q i 0
 past n i p q e = rw (← e) (getD-append-add p q i 0)
 
 device-back : (d : Device) (rest : List ℕ) → SizedTable (d .table) → deviceIn (deviceBytes d ++ rest) ≡ d

@@ -33,7 +33,7 @@ use Rattle.reader.specs.declared.Told.{Told as Commanded}
 use Rattle.reader.specs.declared.Told.the-variants as commanded
 use Rattle.reader.specs.declared.Started.{Started}
 use Rattle.reader.proofs.Refusing as reading-refuses
-use Rattle.motikhund.specs.Lent.{Need, atLeast, Enough, none as no-more, more, Asks, KeptUnless, Made}
+use Rattle.motikhund.specs.Lent.{Need, atLeast, Enough, none as no-more, more, Asks, IfNamed, KeptUnless, Made}
 use Rattle.motikhund.specs.Numbers.{replyOf, RefusalNumber, checkedNumber, checkedValues, foundNumber, foundValues, builtNumber, hubNumber, hubValues, outcomeNumber, outcomeValue, isRefused, waitsNumber, readerNumber, readerValues}
 use Rattle.motikhund.specs.Promises.{PacketChecks, PacketBuilds, PacketAnswers, FramerIdle, FramerHears, HubOn, HubHears, SenderIdle, SenderStarts, SenderHears, SenderWaits, ReaderOn, ReaderPowersUp, ReaderStarts, ReaderTimesOut, ReaderHears, ReaderValue, ReaderSwitches}
 use Rattle.motikhund.specs.Refused.{lent, same, Untouched, Refuses13, StartRefuses, EventRefuses, FramerTaken, HubTaken, ReaderTaken}
@@ -141,11 +141,12 @@ outcome-refused (outcome.Delivered copies) e = not-told e (inr (omega arith))
 outcome-refused (outcome.Failed copies) e = not-told e (inr (omega arith))
 outcome-refused (outcome.Refused y) e = ap outcome.Refused (same-number e)
 
-reader-refused : (t : Commanded) {x : Refusal} → RefusalNumber x (readerNumber t) → t ≡ commanded.Refused x
-reader-refused commanded.Nothing e = not-told e (inl (omega arith))
-reader-refused (commanded.Refused y) e = ap commanded.Refused (same-number e)
-reader-refused (commanded.Acted beep) e = not-told e (inr (omega arith))
-reader-refused commanded.Repeated e = not-told e (inr (omega arith))
+-- The sender refuses no event, so that it is the reader's own refusal.
+reader-refused : (t : Commanded) (o : Outcome) {x : Refusal} → (o ≡ outcome.Refused x → ⊥) → RefusalNumber x (readerNumber t o) → t ≡ commanded.Refused x
+reader-refused commanded.Nothing o h e = absurd (h (outcome-refused o e))
+reader-refused (commanded.Refused y) o h e = ap commanded.Refused (same-number e)
+reader-refused (commanded.Acted beep) o h e = not-told e (inr (omega arith))
+reader-refused commanded.Repeated o h e = not-told e (inr (omega arith))
 
 waits-told : {A : Type 0} (out : Bool) {x : Refusal} → RefusalNumber x (waitsNumber out) → A
 waits-told true e = not-told e (inr (omega arith))
@@ -157,6 +158,14 @@ waits-told false e = not-told e (inl (omega arith))
 by-asks : {needs : List Need} {A B P : Type 0} → Asks needs A B → (A → P) → (Enough needs → B → P) → P
 by-asks {needs} p refused taken = ⊎-elim (λ k. refused (p .refuses k)) (λ e. taken e (p .takes e)) (decided needs)
 
+-- A number that names nothing tells no refusal.
+by-named : {named : Bool} {A B P : Type 0} {r : ℕ} {x : Refusal} → RefusalNumber x r → IfNamed named A B → (A → r ≡ 0) → (B → P) → P
+by-named {named} {P = P} q n zero taken = by named refl
+  where
+    by : (d : Bool) → named ≡ d → P
+    by true e = taken (n .takes e)
+    by false e = not-told (told-as (zero (n .passes e)) q) (inl (omega arith))
+
 zeros-1 : {v : ℕ} → v ≡ 0 → Each (λ (n : ℕ). n ≡ 0) (v ∷ [])
 zeros-1 e = one e none
 
@@ -166,8 +175,8 @@ zeros-3 e = rw e (one refl (one refl (one refl none)))
 zeros-4 : {values : List ℕ} → values ≡ 0 ∷ 0 ∷ 0 ∷ 0 ∷ [] → Each (λ (n : ℕ). n ≡ 0) values
 zeros-4 e = rw e (one refl (one refl (one refl (one refl none))))
 
-zeros-6 : {values : List ℕ} → values ≡ 0 ∷ 0 ∷ 0 ∷ 0 ∷ 0 ∷ 0 ∷ [] → Each (λ (n : ℕ). n ≡ 0) values
-zeros-6 e = rw e (one refl (one refl (one refl (one refl (one refl (one refl none))))))
+zeros-5 : {values : List ℕ} → values ≡ 0 ∷ 0 ∷ 0 ∷ 0 ∷ 0 ∷ [] → Each (λ (n : ℕ). n ≡ 0) values
+zeros-5 e = rw e (one refl (one refl (one refl (one refl (one refl none)))))
 
 -- ---- the packet
 
@@ -195,8 +204,12 @@ build-refuses {room} {carried} {opcode = opcode} {source} {status} k q =
 pub answer-refuses : {room room′ : List ℕ} {source reply r size : ℕ} {x : Refusal} → PacketAnswers room source reply r room′ size → RefusalNumber x r →
     Untouched (lent room room′ ∷ []) (size ∷ [])
 answer-refuses {room} {source = source} {reply} k q =
-    let f = built-refused (k .made) (told-as (k .told) q) in
-    room-untouched f (k .answers .room-is ∙ nothing-written room (seal (replyBody source (replyOf reply))) f) (k .value)
+    by-asks (k .asks) (λ a. record { buffers-same = one (same (a .1)) none; values-zero = zeros-1 (a .2) })
+    (λ e n.
+    by-named q n (λ a. a .0)
+    (λ a.
+    let f = built-refused (a .made) (told-as (a .told) q) in
+    room-untouched f (a .answers .room-is ∙ nothing-written room (seal (replyBody source (replyOf reply))) f) (a .value)))
 
 -- ---- calls that make a control value
 
@@ -326,11 +339,11 @@ not-13 {x = x} q s e z = let y = sym s ∙ (e ∙ eq-eqb (numberOf x) 13 (sym (q
 framer-room : {control line : List ℕ} → Enough (atLeast 9 control ∷ atLeast 257 line ∷ []) → ltb (length line) 257 ≡ false
 framer-room {line = line} (more c (more l no-more)) = le-ltb (length line) 257 l
 
-hub-room : {control answer message : List ℕ} → Enough (atLeast 29 control ∷ atLeast 7 answer ∷ atLeast 4096 message ∷ []) → joining.tooSmall answer message ≡ false
+pub hub-room : {control answer message : List ℕ} → Enough (atLeast 29 control ∷ atLeast 7 answer ∷ atLeast 4096 message ∷ []) → joining.tooSmall answer message ≡ false
 unfolding joining.tooSmall
 hub-room {answer = answer} {message} (more c (more a (more m no-more))) = simp (le-ltb (length answer) 7 a, le-ltb (length message) 4096 m)
 
-reader-room : {control answer copy : List ℕ} → Enough (atLeast 83 control ∷ atLeast 25 answer ∷ atLeast 257 copy ∷ []) → reading.tooSmall answer copy ≡ false
+pub reader-room : {control answer copy : List ℕ} → Enough (atLeast 83 control ∷ atLeast 25 answer ∷ atLeast 257 copy ∷ []) → reading.tooSmall answer copy ≡ false
 unfolding reading.tooSmall
 reader-room {answer = answer} {copy} (more c (more a (more l no-more))) = simp (le-ltb (length answer) 25 a, le-ltb (length copy) 257 l)
 
@@ -344,13 +357,15 @@ framer-hear-refuses k q =
       by-13 = λ z. record { buffers-same = one (same (a .1)) (one (same (a .2)) none); values-zero = zeros-4 (a .3) };
       by-others = λ h. absurd (h (a .0));
     })
-    (λ e a.
+    (λ e n.
+    by-named q n (λ a. a .0)
+    (λ a.
     let f = found-refused (a .framed .found) (told-as (a .told) q) in
     let g = framing.hear-refuses (a .frames) f in
     record {
       by-13 = λ z. absurd (not-13 q (framer-room e) (g .number-13) z);
       by-others = λ h. record { framed = a .framed; kept = a .kept; refuses = g; values-are = a .values ∙ ap foundValues f };
-    })
+    }))
 
 -- `mk_hub_hear`
 pub hub-hear-refuses : {control line gather answer message control′ line′ gather′ answer′ message′ values : List ℕ} {n r : ℕ} {x : Refusal} →
@@ -367,16 +382,18 @@ hub-hear-refuses k q =
           record { buffers-same = one (same (a .1)) (one (same (a .2)) (one (same (a .3)) (one (same (a .4)) (one (same (a .5)) none)))); values-zero = zeros-3 (a .6) };
       by-others = λ h. absurd (h (a .0));
     })
-    (λ e a.
+    (λ e n.
+    by-named q n (λ a. a .0)
+    (λ a.
     let f = hub-refused (a .taken .told) (told-as (a .told) q) in
     let g = joining-refuses.hear-refuses (a .hears) f in
     record {
       by-13 = λ z. absurd (not-13 q (hub-room e) (g .number-13) z);
       by-others = λ h. record { taken = a .taken; kept = a .kept; refuses = g; values-are = a .values-are ∙ ap (λ (t : Told). hubValues t (a .taken .answer)) f };
-    })
+    }))
 
 quiet-values : {t : Commanded} {o : Outcome} {answer : ℕ} {values : List ℕ} {x : Refusal} → t ≡ commanded.Refused x → o ≡ outcome.Nothing → values ≡ readerValues t answer o →
-    values ≡ answer ∷ 0 ∷ 0 ∷ 0 ∷ 0 ∷ 0 ∷ []
+    values ≡ answer ∷ 0 ∷ 0 ∷ 0 ∷ 0 ∷ []
 unfolding readerValues
 quiet-values f s e = e ∙ rw (f, s) refl
 
@@ -392,13 +409,15 @@ reader-hear-refuses k q =
     record {
       by-13 =
           λ z.
-          record { buffers-same = one (same (a .1)) (one (same (a .2)) (one (same (a .3)) (one (same (a .4)) (one (same (a .5)) none)))); values-zero = zeros-6 (a .6) };
+          record { buffers-same = one (same (a .1)) (one (same (a .2)) (one (same (a .3)) (one (same (a .4)) (one (same (a .5)) none)))); values-zero = zeros-5 (a .6) };
       by-others = λ h. absurd (h (a .0));
     })
-    (λ e a.
-    let f = reader-refused (a .taken .told) (told-as (a .told) q) in
+    (λ e n.
+    by-named q n (λ a. a .0)
+    (λ a.
+    let f = reader-refused (a .taken .told) (a .taken .outcome) (reading-refuses.hear-unrefused (a .hears)) (told-as (a .told) q) in
     let g = reading-refuses.hear-refuses (a .hears) f in
     record {
       by-13 = λ z. absurd (not-13 q (reader-room e) (g .number-13) z);
       by-others = λ h. record { taken = a .taken; kept = a .kept; refuses = g; values-are = quiet-values f (g .nothing-sent) (a .values-are) };
-    })
+    }))

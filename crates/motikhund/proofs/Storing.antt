@@ -66,7 +66,7 @@ number-long n = refl
 two-long : (a b : ℕ) → length (numberBytes a ++ numberBytes b) ≡ 16
 two-long a b = length-append (numberBytes a) (numberBytes b) ∙ omega (arith, number-long a, number-long b)
 
-framer-long : (f : Framer) → length (framerBytes f) ≡ 9
+pub framer-long : (f : Framer) → length (framerBytes f) ≡ 9
 unfolding halfBytes numberBytes framerBytes
 framer-long f = refl
 

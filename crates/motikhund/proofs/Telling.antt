@@ -20,7 +20,7 @@ use Rattle.sender.specs.declared.Outcome.{Outcome}
 use Rattle.sender.specs.declared.Heard.{Heard}
 use Rattle.sender.specs.declared.Heard.the-variants as heard
 use Rattle.motikhund.specs.Control.{flagByte, FlagByte, Switches}
-use Rattle.motikhund.specs.Numbers.{eventOf, heardOf, heardNumber, replyOf, hubValues, readerRow, readerValues, EventOf, HeardOf, ReplyOf, HubValues, OutcomeNumber, OutcomeValue, RowOf, ReaderRow, ReaderValues}
+use Rattle.motikhund.specs.Numbers.{eventOf, heardOf, heardNumber, replyOf, hubValues, readerRow, readerValues, EventOf, HeardOf, ReplyOf, HubValues, OutcomeValue, RowOf, ReaderRow, ReaderValues}
 
 -- ---- an event
 
@@ -93,10 +93,10 @@ three-of (commanded.Acted beep.Silent) rest = refl
 three-of (commanded.Acted (beep.Row d p n)) rest = refl
 three-of commanded.Repeated rest = refl
 
-pub reader-values : {t : Commanded} {o : Outcome} {answer number value : ℕ} {row : List ℕ} → ReaderRow t row → OutcomeNumber o number → OutcomeValue o value →
-    ReaderValues t answer o (answer ∷ getD row 0 0 ∷ getD row 1 0 ∷ getD row 2 0 ∷ number ∷ value ∷ [])
+pub reader-values : {t : Commanded} {o : Outcome} {answer value : ℕ} {row : List ℕ} → ReaderRow t row → OutcomeValue o value →
+    ReaderValues t answer o (answer ∷ getD row 0 0 ∷ getD row 1 0 ∷ getD row 2 0 ∷ value ∷ [])
 unfolding readerValues
-reader-values {t} {answer = answer} {number} {value} k n v = record { is = rw (k .is, ← n .is, ← v .is) (ap (λ (s : List ℕ). answer ∷ s) (three-of t (number ∷ value ∷ []))) }
+reader-values {t} {answer = answer} {value} k v = record { is = rw (k .is, ← v .is) (ap (λ (s : List ℕ). answer ∷ s) (three-of t (value ∷ []))) }
 
 -- ---- what is switched on
 

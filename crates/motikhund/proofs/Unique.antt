@@ -12,6 +12,8 @@ use Rattle.words.specs.Lists.{pick, over}
 use Rattle.packet.proofs.Unique as packet
 use Rattle.framer.proofs.Unique as framing
 use Rattle.framer.specs.declared.Framed.{Framed}
+use Rattle.framer.specs.declared.Going.{Going}
+use Rattle.framer.specs.declared.Going.the-variants.{On, Woken, Left}
 use Rattle.hub.proofs.Unique as joining
 use Rattle.hub.specs.declared.Taken.{Taken}
 use Rattle.sender.proofs.Unique as sending
@@ -22,9 +24,9 @@ use Rattle.reader.proofs.Unique as reading
 use Rattle.reader.specs.declared.Reader.{Reader}
 use Rattle.reader.specs.declared.Taken.{Taken as Commanded}
 use Rattle.reader.specs.declared.Started.{Started}
-use Rattle.motikhund.specs.Lent.{Need, atLeast, Lacking, here, there, Enough, none, more, Asks, KeptUnless, Kept, Made}
+use Rattle.motikhund.specs.Lent.{Need, atLeast, Lacking, here, there, Enough, none, more, Asks, IfNamed, KeptUnless, Kept, Made}
 use Rattle.motikhund.specs.Numbers.{checkedNumber, checkedValues, heardNumber, foundNumber, foundValues, builtNumber, hubNumber, hubValues, outcomeNumber, outcomeValue, isRefused, waitsNumber, readerNumber, readerValues}
-use Rattle.motikhund.specs.Promises.{PacketChecks, PacketBuilds, PacketAnswers, FramerIdle, FramerHears, HubOn, HubHears, SenderIdle, Brings, SenderStarts, SenderHears, SenderWaits, SenderHeeds, FreshReader, ReaderOn, ReaderPowersUp, ReaderStarts, ReaderTimesOut, ReaderHears, ReaderValue, ReaderSwitches}
+use Rattle.motikhund.specs.Promises.{PacketChecks, PacketBuilds, PacketAnswers, FramerIdle, FramerHears, wentOn, FrontAfter, GoesOn, HubOn, HubHears, SenderIdle, Brings, SenderStarts, SenderHears, SenderWaits, SenderHeeds, FreshReader, ReaderOn, ReaderPowersUp, ReaderStarts, ReaderTimesOut, ReaderHears, ReaderValue, ReaderSwitches}
 
 -- ---- what is lent
 
@@ -39,6 +41,13 @@ decided (atLeast n s ∷ needs) = decided-by n s needs (ltb (length s) n) refl (
 
 asks-unique : {needs : List Need} {A B A′ B′ P : Type 0} → Asks needs A B → Asks needs A′ B′ → (A → A′ → P) → (B → B′ → P) → P
 asks-unique {needs} p q refused taken = ⊎-elim (λ k. refused (p .refuses k) (q .refuses k)) (λ e. taken (p .takes e) (q .takes e)) (decided needs)
+
+named-unique : {named : Bool} {A B A′ B′ P : Type 0} → IfNamed named A B → IfNamed named A′ B′ → (A → A′ → P) → (B → B′ → P) → P
+named-unique {named} {P = P} p q passed taken = by named refl
+  where
+    by : (d : Bool) → named ≡ d → P
+    by true e = taken (p .takes e) (q .takes e)
+    by false e = passed (p .passes e) (q .passes e)
 
 -- The same value, the same bytes.
 same-kept : {C : Type 0} {read : List ℕ → C} {bytes : C → List ℕ} {v v′ : C} {control control₁ control₂ : List ℕ} → v ≡ v′ → Kept read bytes v control control₁ →
@@ -56,6 +65,22 @@ same-start {bytes = bytes} {control = control} refused left e p q =
 -- Two equal to one are equal.
 same : {A : Type 0} {x y z : A} → x ≡ z → y ≡ z → x ≡ y
 same p q = p ∙ sym q
+
+-- And so are two calls that change nothing.
+stays-3 : {A B C : Type 0} {r r′ r₀ : A} {b b′ b₀ : B} {v v′ v₀ : C} → (r ≡ r₀) × (b ≡ b₀) × (v ≡ v₀) → (r′ ≡ r₀) × (b′ ≡ b₀) × (v′ ≡ v₀) → (r ≡ r′) × (b ≡ b′) × (v ≡ v′)
+stays-3 a b = (same (a .0) (b .0), same (a .1) (b .1), same (a .2) (b .2))
+
+stays-4 : {A B C D : Type 0} {r r′ r₀ : A} {b b′ b₀ : B} {c c′ c₀ : C} {v v′ v₀ : D} →
+    (r ≡ r₀) × (b ≡ b₀) × (c ≡ c₀) × (v ≡ v₀) →
+    (r′ ≡ r₀) × (b′ ≡ b₀) × (c′ ≡ c₀) × (v′ ≡ v₀) →
+    (r ≡ r′) × (b ≡ b′) × (c ≡ c′) × (v ≡ v′)
+stays-4 a b = (same (a .0) (b .0), same (a .1) (b .1), same (a .2) (b .2), same (a .3) (b .3))
+
+stays-7 : {A B C : Type 0} {r r′ r₀ : A} {b b′ b₀ c c′ c₀ d d′ d₀ e e′ e₀ f f′ f₀ : B} {v v′ v₀ : C} →
+    (r ≡ r₀) × (b ≡ b₀) × (c ≡ c₀) × (d ≡ d₀) × (e ≡ e₀) × (f ≡ f₀) × (v ≡ v₀) →
+    (r′ ≡ r₀) × (b′ ≡ b₀) × (c′ ≡ c₀) × (d′ ≡ d₀) × (e′ ≡ e₀) × (f′ ≡ f₀) × (v′ ≡ v₀) →
+    (r ≡ r′) × (b ≡ b′) × (c ≡ c′) × (d ≡ d′) × (e ≡ e′) × (f ≡ f′) × (v ≡ v′)
+stays-7 a b = (same (a .0) (b .0), same (a .1) (b .1), same (a .2) (b .2), same (a .3) (b .3), same (a .4) (b .4), same (a .5) (b .5), same (a .6) (b .6))
 
 -- The number, or the values, of an outcome.
 numbered : {A B : Type 0} {o o′ : A} {x y : B} (f : A → B) → o ≡ o′ → x ≡ f o → y ≡ f o′ → x ≡ y
@@ -110,23 +135,41 @@ build-unique p q =
 pub answer-unique : {room room₁ room₂ : List ℕ} {source reply r r′ size₁ size₂ : ℕ} → PacketAnswers room source reply r room₁ size₁ →
     PacketAnswers room source reply r′ room₂ size₂ → (r ≡ r′) × (room₁ ≡ room₂) × (size₁ ≡ size₂)
 answer-unique p q =
-    let u = packet.answer-unique (p .answers) (q .answers) in
-    (numbered builtNumber (u .0) (p .told) (q .told), u .1, numbered sizeOf (u .0) (p .value) (q .value))
+    asks-unique (p .asks) (q .asks) (λ a b. stays-3 a b)
+    (λ n m.
+    named-unique n m (λ a b. stays-3 a b)
+    (λ a b.
+    let u = packet.answer-unique (a .answers) (b .answers) in
+    (numbered builtNumber (u .0) (a .told) (b .told), u .1, numbered sizeOf (u .0) (a .value) (b .value))))
 
 -- ---- the framer
 
 pub framer-hear-unique : {control line control₁ line₁ head₁ control₂ line₂ head₂ : List ℕ} {n r r′ : ℕ} → FramerHears control line n r control₁ line₁ head₁ →
     FramerHears control line n r′ control₂ line₂ head₂ → (r ≡ r′) × (control₁ ≡ control₂) × (line₁ ≡ line₂) × (head₁ ≡ head₂)
 framer-hear-unique p q =
-    asks-unique (p .asks) (q .asks)
-    (λ a b. (same (a .0) (b .0), same (a .1) (b .1), same (a .2) (b .2), same (a .3) (b .3)))
+    asks-unique (p .asks) (q .asks) (λ a b. stays-4 a b)
+    (λ n m.
+    named-unique n m (λ a b. stays-4 a b)
     (λ a b.
     let u = framing.hear-unique (a .frames) (b .frames) in (
       numbered (λ (x : Framed). foundNumber (x .found)) (u .0) (a .told) (b .told),
       same-kept (ap (λ (x : Framed). x .framer) (u .0)) (a .kept) (b .kept),
       u .1,
       numbered (λ (x : Framed). foundValues (x .found)) (u .0) (a .values) (b .values),
-    ))
+    )))
+
+-- ---- the short way
+
+same-front : (g : Going) (front front₁ front₂ : List ℕ) → FrontAfter g front front₁ → FrontAfter g front front₂ → front₁ ≡ front₂
+same-front (On n) front front₁ front₂ p q = same-kept refl p q
+same-front Woken front front₁ front₂ p q = same-kept refl p q
+same-front Left front front₁ front₂ p q = same p q
+
+pub go-on-unique : {front line front₁ line₁ front₂ line₂ : List ℕ} {n : ℕ} {r r′ : Bool} → GoesOn front line n r front₁ line₁ → GoesOn front line n r′ front₂ line₂ →
+    (r ≡ r′) × (front₁ ≡ front₂) × (line₁ ≡ line₂)
+go-on-unique {front} {front₁ = front₁} {front₂ = front₂} p q =
+    let u = framing.go-on-unique (p .goes) (q .goes) in
+    (numbered wentOn (u .0) (p .told) (q .told), same-front (p .going) front front₁ front₂ (p .front-is) (rw (sym (u .0)) at (q .front-is)), u .1)
 
 -- ---- the hub
 
@@ -135,9 +178,9 @@ pub hub-hear-unique : {control line gather answer message control₁ line₁ gat
     HubHears control line gather answer message n r′ control₂ line₂ gather₂ answer₂ message₂ values₂ →
     (r ≡ r′) × (control₁ ≡ control₂) × (line₁ ≡ line₂) × (gather₁ ≡ gather₂) × (answer₁ ≡ answer₂) × (message₁ ≡ message₂) × (values₁ ≡ values₂)
 hub-hear-unique p q =
-    asks-unique (p .asks) (q .asks)
-    (λ a b.
-    (same (a .0) (b .0), same (a .1) (b .1), same (a .2) (b .2), same (a .3) (b .3), same (a .4) (b .4), same (a .5) (b .5), same (a .6) (b .6)))
+    asks-unique (p .asks) (q .asks) (λ a b. stays-7 a b)
+    (λ n m.
+    named-unique n m (λ a b. stays-7 a b)
     (λ a b.
     let u = joining.hear-unique (a .hears) (b .hears) in (
       numbered (λ (x : Taken). hubNumber (x .told)) (u .0) (a .told) (b .told),
@@ -147,7 +190,7 @@ hub-hear-unique p q =
       u .3,
       u .4,
       numbered (λ (x : Taken). hubValues (x .told) (x .answer)) (u .0) (a .values-are) (b .values-are),
-    ))
+    )))
 
 -- ---- the sender
 
@@ -170,7 +213,7 @@ pub sender-hear-unique : {control buffer room control₁ room₁ control₂ room
     SenderHears control buffer room n r′ control₂ room₂ value₂ → (r ≡ r′) × (control₁ ≡ control₂) × (room₁ ≡ room₂) × (value₁ ≡ value₂)
 sender-hear-unique p q =
     asks-unique (p .asks) (q .asks)
-    (λ a b. (same (a .0) (b .0), same (a .1) (b .1), same (a .2) (b .2), same (a .3) (b .3)))
+    (λ a b. stays-4 a b)
     (λ a b.
     let u = sending.hear-unique (a .hears) (b .hears) in
     let t = brings-unique (ap (λ (x : Sending). x .outcome) (u .0)) (a .brings) (b .brings) in
@@ -202,7 +245,7 @@ pub reader-time-out-unique : {control message copy control₁ copy₁ control₂
     ReaderTimesOut control message copy r′ control₂ copy₂ value₂ → (r ≡ r′) × (control₁ ≡ control₂) × (copy₁ ≡ copy₂) × (value₁ ≡ value₂)
 reader-time-out-unique p q =
     asks-unique (p .asks) (q .asks)
-    (λ a b. (same (a .0) (b .0), same (a .1) (b .1), same (a .2) (b .2), same (a .3) (b .3)))
+    (λ a b. stays-4 a b)
     (λ a b.
     let u = reading.time-out-unique (a .times) (b .times) in
     let t = brings-unique (ap (λ (x : Started). x .outcome) (u .0)) (a .brings) (b .brings) in
@@ -213,19 +256,19 @@ pub reader-hear-unique : {control line answers message answer copy control₁ li
     ReaderHears control line answers message answer copy n r′ control₂ line₂ answers₂ answer₂ copy₂ values₂ →
     (r ≡ r′) × (control₁ ≡ control₂) × (line₁ ≡ line₂) × (answers₁ ≡ answers₂) × (answer₁ ≡ answer₂) × (copy₁ ≡ copy₂) × (values₁ ≡ values₂)
 reader-hear-unique p q =
-    asks-unique (p .asks) (q .asks)
-    (λ a b.
-    (same (a .0) (b .0), same (a .1) (b .1), same (a .2) (b .2), same (a .3) (b .3), same (a .4) (b .4), same (a .5) (b .5), same (a .6) (b .6)))
+    asks-unique (p .asks) (q .asks) (λ a b. stays-7 a b)
+    (λ n m.
+    named-unique n m (λ a b. stays-7 a b)
     (λ a b.
     let u = reading.hear-unique (a .hears) (b .hears) in (
-      numbered (λ (x : Commanded). readerNumber (x .told)) (u .0) (a .told) (b .told),
+      numbered (λ (x : Commanded). readerNumber (x .told) (x .outcome)) (u .0) (a .told) (b .told),
       same-kept (ap (λ (x : Commanded). x .reader) (u .0)) (a .kept) (b .kept),
       u .1,
       u .2,
       u .3,
       u .4,
       numbered (λ (x : Commanded). readerValues (x .told) (x .answer) (x .outcome)) (u .0) (a .values-are) (b .values-are),
-    ))
+    )))
 
 pub reader-value-unique : {control : List ℕ} {number r r′ value₁ value₂ : ℕ} → ReaderValue control number r value₁ → ReaderValue control number r′ value₂ →
     (r ≡ r′) × (value₁ ≡ value₂)

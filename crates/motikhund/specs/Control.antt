@@ -28,8 +28,12 @@ numberSize = 2 * halfSize
 abbrev pub framerControlSize : ℕ
 framerControlSize = numberSize + 1
 
+-- The front of a hub's and of a reader's control value: its framer, and which half of the line receives.
+abbrev pub goingSize : ℕ
+goingSize = framerControlSize + 1
+
 abbrev pub halvesSize : ℕ
-halvesSize = framerControlSize + 1 + numberSize
+halvesSize = goingSize + numberSize
 
 abbrev pub gatheringSize : ℕ
 gatheringSize = 3 + numberSize

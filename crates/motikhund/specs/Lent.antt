@@ -1,6 +1,6 @@
 -- What a call asks of what it is lent, and what it leaves in a control value's bytes: the vocabulary of every exported promise.
 use Prim.Native.Nat.{ℕ, _<_, _≤_}
-use mathlib.Core.Bool.{Bool, false}
+use mathlib.Core.Bool.{Bool, true, false}
 use mathlib.Core.List.{List, [], _∷_}
 use mathlib.Core.Path.{_≡_}
 use lib.ListN.{length}
@@ -23,6 +23,11 @@ pub data Enough : List Need → Type 0 where
 pub record Asks (needs : List Need) (Refuses Takes : Type 0) : Type 0 where
   pub refuses : Lacking needs → Refuses
   pub takes : Enough needs → Takes
+
+-- A number of the caller that names nothing does nothing.
+pub record IfNamed (named : Bool) (Nothing Takes : Type 0) : Type 0 where
+  pub passes : named ≡ false → Nothing
+  pub takes : named ≡ true → Takes
 
 -- The bytes afterwards are those of a control value, over what was there; a start that was refused leaves every byte alone. Either way
 -- they read as that control value.

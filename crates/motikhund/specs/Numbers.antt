@@ -4,7 +4,7 @@ use Prim.Native.Nat.{ℕ}
 use mathlib.Core.Bool.{Bool, true, false}
 use mathlib.Core.List.{List, [], _∷_, _++_}
 use mathlib.Core.Path.{_≡_}
-use lib.Dec.{eqb, ltb}
+use lib.Dec.{eqb, leb, ltb}
 use Rattle.words.specs.Lists.{pick}
 use Rattle.packet.specs.Refusals.{numberOf}
 use Rattle.packet.specs.declared.Refusal.{Refusal}
@@ -32,7 +32,10 @@ use Rattle.sender.specs.declared.Outcome.the-variants as outcome
 
 -- ---- what goes in
 
--- An event: 0 to 255 that byte, 256 a character gap, any number above it a message gap.
+-- An event: 0 to 255 that byte, 256 a character gap, 257 a message gap; no number above it is one.
+unfoldable pub isEvent : ℕ → Bool
+isEvent n = leb n 257
+
 unfoldable pub eventOf : ℕ → Event
 eventOf n = pick (ltb n 256) (Byte n) (pick (eqb n 256) CharacterGap MessageGap)
 
@@ -46,7 +49,10 @@ heardNumber (heard.Nak cause) = cause
 heardNumber heard.TimeOut = 257
 heardNumber heard.Nothing = 258
 
--- A reply: 0 to 255 a NAK with that cause, any number above it an ACK.
+-- A reply: 0 to 255 a NAK with that cause, 256 an ACK; no number above it is one.
+unfoldable pub isReply : ℕ → Bool
+isReply n = leb n 256
+
 unfoldable pub replyOf : ℕ → Reply
 replyOf n = pick (ltb n 256) (reply.Nak n) reply.Ack
 
@@ -125,12 +131,13 @@ waitsNumber true = 123
 waitsNumber false = 0
 
 -- The reader: how many bytes stand in the answer room; the row of §13 that is reported, duration, pitch and number of beeps, of
--- which there are none where nothing sounds; then what its sender brought, number and value.
-abbrev pub readerNumber : Commanded → ℕ
-readerNumber commanded.Nothing = 0
-readerNumber (commanded.Refused r) = numberOf r
-readerNumber (commanded.Acted beep) = 130
-readerNumber commanded.Repeated = 111
+-- which there are none where nothing sounds; then the value of what its sender brought. One number tells of both: an event that brings a
+-- command is none for the sender.
+abbrev pub readerNumber : Commanded → Outcome → ℕ
+readerNumber commanded.Nothing sent = outcomeNumber sent
+readerNumber (commanded.Refused r) sent = numberOf r
+readerNumber (commanded.Acted beep) sent = 130
+readerNumber commanded.Repeated sent = 111
 
 abbrev pub rowOf : Beep → List ℕ
 rowOf beep.Silent = 0 ∷ 0 ∷ 0 ∷ []
@@ -143,7 +150,7 @@ readerRow (commanded.Acted beep) = rowOf beep
 readerRow commanded.Repeated = 0 ∷ 0 ∷ 0 ∷ []
 
 unfoldable pub readerValues : Commanded → ℕ → Outcome → List ℕ
-readerValues told answer sent = answer ∷ (readerRow told ++ (outcomeNumber sent ∷ outcomeValue sent ∷ []))
+readerValues told answer sent = answer ∷ (readerRow told ++ (outcomeValue sent ∷ []))
 
 -- ---- promises
 
@@ -198,8 +205,8 @@ pub record OutcomeRefused (o : Outcome) (r : Bool) : Type 0 where
 pub record WaitsNumber (out : Bool) (r : ℕ) : Type 0 where
   pub is : r ≡ waitsNumber out
 
-pub record ReaderNumber (t : Commanded) (r : ℕ) : Type 0 where
-  pub is : r ≡ readerNumber t
+pub record ReaderNumber (t : Commanded) (sent : Outcome) (r : ℕ) : Type 0 where
+  pub is : r ≡ readerNumber t sent
 
 pub record RowOf (b : Beep) (row : List ℕ) : Type 0 where
   pub is : row ≡ rowOf b

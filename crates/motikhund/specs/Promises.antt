@@ -2,20 +2,22 @@
 -- nothing changed. Else it is the library's call on what the bytes read as, with that call's own promise; what it told stands in
 -- numbers, and the control bytes afterwards are those of the control value that it left, or as they were where a start was refused.
 use Prim.Native.Nat.{ℕ}
-use mathlib.Core.Bool.{Bool}
+use mathlib.Core.Bool.{Bool, true, false}
 use mathlib.Core.List.{List, [], _∷_}
 use mathlib.Core.Path.{_≡_}
-use lib.ListN.{length}
 use Rattle.packet.specs.Opcodes.{host}
 use Rattle.packet.specs.Packet.{sizeOf}
 use Rattle.packet.specs.Promises as packet
-use Rattle.packet.specs.Sizes.{packetSize, messageSize}
+use Rattle.packet.specs.Sizes.{packetSize, answerSize, messageSize}
 use Rattle.packet.specs.declared.Checked.{Checked}
 use Rattle.packet.specs.declared.Built.{Built}
+use Rattle.framer.specs.Framer.{hearing}
 use Rattle.framer.specs.Promises as framing
+use Rattle.framer.specs.Halves as halves
+use Rattle.framer.specs.declared.Going.{Going}
+use Rattle.framer.specs.declared.Going.the-variants.{On, Woken, Left}
 use Rattle.framer.specs.declared.Framed.{Framed}
 use Rattle.hub.specs.Promises as joining
-use Rattle.hub.specs.declared.Hub.{Hub}
 use Rattle.hub.specs.declared.Taken.{Taken}
 use Rattle.sender.specs.Promises as sending
 use Rattle.sender.specs.declared.Heard.{Heard}
@@ -28,9 +30,9 @@ use Rattle.reader.specs.Promises as reading
 use Rattle.reader.specs.declared.Reader.{Reader}
 use Rattle.reader.specs.declared.Taken.{Taken as Commanded}
 use Rattle.reader.specs.declared.Started.{Started}
-use Rattle.motikhund.specs.Lent.{atLeast, Asks, KeptUnless, Kept, Made}
-use Rattle.motikhund.specs.Control.{framerControlSize, hubControlSize, senderControlSize, readerControlSize, framerIn, framerBytes, hubIn, hubBytes, PutsHub, senderIn, senderBytes, readerIn, readerBytes, switchValues}
-use Rattle.motikhund.specs.Numbers.{eventOf, heardOf, heardNumber, replyOf, noHead, checkedNumber, checkedValues, foundNumber, foundValues, builtNumber, hubNumber, hubValues, outcomeNumber, outcomeValue, isRefused, waitsNumber, readerNumber, readerValues}
+use Rattle.motikhund.specs.Lent.{atLeast, Asks, IfNamed, KeptUnless, Kept, Made}
+use Rattle.motikhund.specs.Control.{framerControlSize, hubControlSize, senderControlSize, readerControlSize, numberIn, numberBytes, flagIn, framerIn, framerBytes, hubIn, hubBytes, senderIn, senderBytes, readerIn, readerBytes, switchValues}
+use Rattle.motikhund.specs.Numbers.{isEvent, eventOf, heardOf, heardNumber, isReply, replyOf, noHead, checkedNumber, checkedValues, foundNumber, foundValues, builtNumber, hubNumber, hubValues, outcomeNumber, outcomeValue, isRefused, waitsNumber, readerNumber, readerValues}
 
 -- ---- the packet: each call asks for its own room
 
@@ -46,11 +48,20 @@ pub record PacketBuilds (room : List ℕ) (opcode source status : ℕ) (carried 
   pub told : r ≡ builtNumber made
   pub value : size ≡ sizeOf made
 
-pub record PacketAnswers (room : List ℕ) (source reply r : ℕ) (room′ : List ℕ) (size : ℕ) : Type 0 where
+pub record PacketReplies (room : List ℕ) (source reply r : ℕ) (room′ : List ℕ) (size : ℕ) : Type 0 where
   pub made : Built
   pub answers : packet.Answer room source (replyOf reply) made room′
   pub told : r ≡ builtNumber made
   pub value : size ≡ sizeOf made
+
+-- Nothing is written, and this number told.
+abbrev pub Unwritten : ℕ → List ℕ → ℕ → List ℕ → ℕ → Type 0
+Unwritten n room r room′ size = (r ≡ n) × (room′ ≡ room) × (size ≡ 0)
+
+pub record PacketAnswers (room : List ℕ) (source reply r : ℕ) (room′ : List ℕ) (size : ℕ) : Type 0 where
+  pub asks :
+      Asks (atLeast answerSize room ∷ []) (Unwritten 13 room r room′ size)
+      (IfNamed (isReply reply) (Unwritten 0 room r room′ size) (PacketReplies room source reply r room′ size))
 
 -- ---- the framer
 
@@ -64,11 +75,33 @@ pub record FramerTakes (control line : List ℕ) (event r : ℕ) (control′ lin
   pub values : head ≡ foundValues (framed .found)
   pub kept : Kept framerIn framerBytes (framed .framer) control control′
 
+-- The event is not taken: nothing has changed, and this number is told.
+abbrev pub FramerStays : ℕ → List ℕ → List ℕ → ℕ → List ℕ → List ℕ → List ℕ → Type 0
+FramerStays n control line r control′ line′ head = (r ≡ n) × (control′ ≡ control) × (line′ ≡ line) × (head ≡ noHead)
+
 pub record FramerHears (control line : List ℕ) (event r : ℕ) (control′ line′ head : List ℕ) : Type 0 where
   pub asks :
-      Asks (atLeast framerControlSize control ∷ atLeast packetSize line ∷ [])
-      ((r ≡ 13) × (control′ ≡ control) × (line′ ≡ line) × (head ≡ noHead))
-      (FramerTakes control line event r control′ line′ head)
+      Asks (atLeast framerControlSize control ∷ atLeast packetSize line ∷ []) (FramerStays 13 control line r control′ line′ head)
+      (IfNamed (isEvent event) (FramerStays 0 control line r control′ line′ head) (FramerTakes control line event r control′ line′ head))
+
+-- ---- the short way of hub and reader: the front of a control value, goingSize bytes, is all that it is lent beside the line
+
+-- Whether the event was taken, and what is written then: the count, or all bytes of a framer that hears again.
+abbrev pub wentOn : Going → Bool
+wentOn (On n) = true
+wentOn Woken = true
+wentOn Left = false
+
+abbrev pub FrontAfter : Going → List ℕ → List ℕ → Type 0
+FrontAfter (On n) front front′ = Kept numberIn numberBytes n front front′
+FrontAfter Woken front front′ = Kept framerIn framerBytes (framing.controlOf (hearing [])) front front′
+FrontAfter Left front front′ = front′ ≡ front
+
+pub record GoesOn (front line : List ℕ) (event : ℕ) (r : Bool) (front′ line′ : List ℕ) : Type 0 where
+  pub going : Going
+  pub goes : halves.GoesOn (framerIn front) (flagIn front 9) line (eventOf event) going line′
+  pub told : r ≡ wentOn going
+  pub front-is : FrontAfter going front front′
 
 -- ---- the hub
 
@@ -82,24 +115,16 @@ pub record HubTakes (control line gather answer message : List ℕ) (event r : �
   pub values-are : values ≡ hubValues (taken .told) (taken .answer)
   pub kept : Kept hubIn hubBytes (taken .hub) control control′
 
+abbrev pub HubStays : ℕ → List ℕ → List ℕ → List ℕ → List ℕ → List ℕ → ℕ → List ℕ → List ℕ → List ℕ → List ℕ → List ℕ → List ℕ → Type 0
+HubStays n control line gather answer message r control′ line′ gather′ answer′ message′ values =
+    (r ≡ n) × (control′ ≡ control) × (line′ ≡ line) × (gather′ ≡ gather) × (answer′ ≡ answer) × (message′ ≡ message) × (values ≡ 0 ∷ 0 ∷ 0 ∷ [])
+
 pub record HubHears (control line gather answer message : List ℕ) (event r : ℕ) (control′ line′ gather′ answer′ message′ values : List ℕ) : Type 0 where
   pub asks :
       Asks (atLeast hubControlSize control ∷ atLeast joining.hubAnswerSize answer ∷ atLeast messageSize message ∷ [])
-      ((r ≡ 13)
-      × (control′ ≡ control)
-      × (line′ ≡ line)
-      × (gather′ ≡ gather)
-      × (answer′ ≡ answer)
-      × (message′ ≡ message)
-      × (values ≡ 0 ∷ 0 ∷ 0 ∷ []))
-      (HubTakes control line gather answer message event r control′ line′ gather′ answer′ message′ values)
-
--- The short way: the control value put back, and nothing told.
-pub record HubGoesOn (hub : Hub) (gather control : List ℕ) (r : ℕ) (control′ values : List ℕ) : Type 0 where
-  pub puts : PutsHub hub control control′
-  pub told : r ≡ 0
-  pub values-are : values ≡ 0 ∷ 0 ∷ 0 ∷ []
-  pub long : length gather ≡ messageSize
+      (HubStays 13 control line gather answer message r control′ line′ gather′ answer′ message′ values)
+      (IfNamed (isEvent event) (HubStays 0 control line gather answer message r control′ line′ gather′ answer′ message′ values)
+      (HubTakes control line gather answer message event r control′ line′ gather′ answer′ message′ values))
 
 -- ---- the sender
 
@@ -189,21 +214,20 @@ pub record ReaderTimesOut (control message copy : List ℕ) (r : ℕ) (control�
 pub record ReaderTakes (control line answers message answer copy : List ℕ) (event r : ℕ) (control′ line′ answers′ answer′ copy′ values : List ℕ) : Type 0 where
   pub taken : Commanded
   pub hears : reading.Hears (readerIn control) line answers message answer copy (eventOf event) taken line′ answers′ answer′ copy′
-  pub told : r ≡ readerNumber (taken .told)
+  pub told : r ≡ readerNumber (taken .told) (taken .outcome)
   pub values-are : values ≡ readerValues (taken .told) (taken .answer) (taken .outcome)
   pub kept : Kept readerIn readerBytes (taken .reader) control control′
+
+abbrev pub ReaderStays : ℕ → List ℕ → List ℕ → List ℕ → List ℕ → List ℕ → ℕ → List ℕ → List ℕ → List ℕ → List ℕ → List ℕ → List ℕ → Type 0
+ReaderStays n control line answers answer copy r control′ line′ answers′ answer′ copy′ values =
+    (r ≡ n) × (control′ ≡ control) × (line′ ≡ line) × (answers′ ≡ answers) × (answer′ ≡ answer) × (copy′ ≡ copy) × (values ≡ 0 ∷ 0 ∷ 0 ∷ 0 ∷ 0 ∷ [])
 
 pub record ReaderHears (control line answers message answer copy : List ℕ) (event r : ℕ) (control′ line′ answers′ answer′ copy′ values : List ℕ) : Type 0 where
   pub asks :
       Asks (atLeast readerControlSize control ∷ atLeast readerAnswerSize answer ∷ atLeast packetSize copy ∷ [])
-      ((r ≡ 13)
-      × (control′ ≡ control)
-      × (line′ ≡ line)
-      × (answers′ ≡ answers)
-      × (answer′ ≡ answer)
-      × (copy′ ≡ copy)
-      × (values ≡ 0 ∷ 0 ∷ 0 ∷ 0 ∷ 0 ∷ 0 ∷ []))
-      (ReaderTakes control line answers message answer copy event r control′ line′ answers′ answer′ copy′ values)
+      (ReaderStays 13 control line answers answer copy r control′ line′ answers′ answer′ copy′ values)
+      (IfNamed (isEvent event) (ReaderStays 0 control line answers answer copy r control′ line′ answers′ answer′ copy′ values)
+      (ReaderTakes control line answers message answer copy event r control′ line′ answers′ answer′ copy′ values))
 
 -- The present value of a parameter.
 pub record ReaderShows (control : List ℕ) (number r value : ℕ) : Type 0 where

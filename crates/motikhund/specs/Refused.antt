@@ -62,4 +62,4 @@ pub record ReaderTaken (x : Refusal) (event : ℕ) (control control′ line line
   pub taken : Commanded
   pub kept : Kept readerIn readerBytes (taken .reader) control control′
   pub refuses : ReaderRefuses x (eventOf event) (readerIn control) taken line line′ answers answers′ message answer answer′ copy copy′
-  pub values-are : values ≡ taken .answer ∷ 0 ∷ 0 ∷ 0 ∷ 0 ∷ 0 ∷ []
+  pub values-are : values ≡ taken .answer ∷ 0 ∷ 0 ∷ 0 ∷ 0 ∷ []

@@ -21,7 +21,10 @@ const NUMBER_SIZE: usize = 8;
 
 pub const FRAMER_CONTROL_SIZE: usize = NUMBER_SIZE + 1;
 
-const HALVES_SIZE: usize = FRAMER_CONTROL_SIZE + 1 + NUMBER_SIZE;
+// The front of a hub's and of a reader's: its framer, and which half of the line receives.
+pub const GOING_SIZE: usize = FRAMER_CONTROL_SIZE + 1;
+
+const HALVES_SIZE: usize = GOING_SIZE + NUMBER_SIZE;
 
 const GATHERING_SIZE: usize = 3 + NUMBER_SIZE;
 
@@ -67,7 +70,7 @@ fn put_half(n: usize, room: &mut [u8])
     put_four(a, b, c, d, room);
 }
 
-fn put_number(n: usize, room: &mut [u8])
+pub(crate) fn put_number(n: usize, room: &mut [u8])
     requires { ⌜ numberSize ≤ length (now room) ⌝ }
     ensures { λ _. ⌜ PutsNumber n (now (room .entry)) (now (room .exit)) ⌝ }
 {

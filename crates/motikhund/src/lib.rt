@@ -1,23 +1,22 @@
 // The library for other languages: every machine over bytes and numbers. The caller keeps a control value as bytes (`control`),
 // what is told comes back as numbers (`numbers`), and no call trusts its caller: whatever is lent too small is number 13, with
-// nothing changed.
+// nothing changed; a number that names no event or reply does nothing.
 mod control;
 mod numbers;
 
 use control::FRAMER_CONTROL_SIZE;
+use control::GOING_SIZE;
 use control::HUB_CONTROL_SIZE;
 use control::READER_CONTROL_SIZE;
 use control::SENDER_CONTROL_SIZE;
-use hub::Hub;
-ghost use Prim.Native.Nat.{_≤_};
-ghost use mathlib.Core.Path.{_≡_};
-ghost use lib.ListN.{length};
-ghost use Rattle.packet.specs.Sizes.{messageSize};
-ghost use Rattle.motikhund.specs.Control.{hubControlSize};
-ghost use Rattle.motikhund.specs.Promises.{PacketChecks, PacketBuilds, PacketAnswers, FramerIdle, FramerHears, HubOn, HubHears, HubTakes, HubGoesOn, SenderIdle, SenderStarts, SenderHears, SenderWaits, SenderHeeds, ReaderOn, ReaderPowersUp, ReaderStarts, ReaderTimesOut, ReaderHears, ReaderValue, ReaderSwitches};
+ghost use Rattle.motikhund.specs.Promises.{PacketChecks, PacketBuilds, PacketAnswers, FramerIdle, FramerHears, GoesOn, HubOn, HubHears, SenderIdle, SenderStarts, SenderHears, SenderWaits, SenderHeeds, ReaderOn, ReaderPowersUp, ReaderStarts, ReaderTimesOut, ReaderHears, ReaderValue, ReaderSwitches};
 
 // Lent room too small.
 const ROOM: u32 = 13;
+// The largest numbers that name an event and a reply.
+const LAST_EVENT: u32 = 257;
+
+const LAST_REPLY: u32 = 256;
 
 // ---- the packet
 
@@ -53,6 +52,14 @@ pub extern "C" fn mk_build(
 pub extern "C" fn mk_answer(room: &mut [u8], source: u8, reply: u32, size: &mut usize) -> u32
     ensures { λ r. ⌜ PacketAnswers (now (room .entry)) source reply r (now (room .exit)) (now (size .exit)) ⌝ }
 {
+    if room.len() < packet::ANSWER_SIZE {
+        *size = 0;
+        return ROOM;
+    }
+    if LAST_REPLY < reply {
+        *size = 0;
+        return 0;
+    }
     let built = packet::answer(room, source, numbers::reply(reply));
     *size = packet::size_of(built);
     numbers::built(built)
@@ -90,12 +97,44 @@ pub extern "C" fn mk_framer_hear(
         *head = [0; 4];
         return ROOM;
     }
+    if LAST_EVENT < event {
+        *head = [0; 4];
+        return 0;
+    }
     let framed = framer::hear(control::framer(control), line, numbers::event(event));
     let next = framed.framer;
     let found = framed.found;
     control::put_framer(next, control);
     numbers::found_values(found, head);
     numbers::found(found)
+}
+
+// ---- the short way of hub and reader
+
+// One event of which there is nothing to tell, for most bytes of a line and the gaps behind packets: whether it was taken. It is lent
+// the front of a hub's or a reader's control value and leaves the rest alone. It has no test for number 13: where it takes an event it
+// does what `mk_hub_hear` and `mk_reader_hear` do with rooms of full size, and whoever lends rooms tests them first.
+#[no_mangle]
+pub extern "C" fn mk_go_on(
+    control: &mut [u8; GOING_SIZE],
+    line: &mut [u8; framer::LINE_SIZE],
+    event: u32,
+) -> bool
+    ensures { λ r. ⌜ GoesOn (now (control .entry)) (now (line .entry)) event r (now (control .exit)) (now (line .exit)) ⌝ }
+{
+    let before = control::framer(control);
+    let second = control[9] == 1;
+    match framer::go_on(before, second, line, numbers::event(event)) {
+        framer::Going::On(count) => {
+            control::put_number(count, control);
+            true
+        }
+        framer::Going::Woken => {
+            control::put_framer(framer::idle(), control);
+            true
+        }
+        framer::Going::Left => false,
+    }
 }
 
 // ---- the hub
@@ -138,34 +177,10 @@ pub extern "C" fn mk_hub_hear(
         *values = [0; 3];
         return ROOM;
     }
-    match hub::go_on(control::hub(control), line, numbers::event(event)) {
-        hub::Going::On(next) => hub_goes_on(next, &gather[..], control, values),
-        hub::Going::Left => hub_hears(control, line, gather, answer, message, event, values),
+    if LAST_EVENT < event {
+        *values = [0; 3];
+        return 0;
     }
-}
-
-// The short way, for most bytes of a line: there is nothing to tell.
-fn hub_goes_on(hub: Hub, gather: &[u8], control: &mut [u8], values: &mut [usize; 3]) -> u32
-    requires { ⌜ (length (now gather) ≡ messageSize) × (hubControlSize ≤ length (now control)) ⌝ }
-    ensures { λ r. ⌜ HubGoesOn hub (now (gather .entry)) (now (control .entry)) r (now (control .exit)) (now (values .exit)) ⌝ }
-{
-    control::put_hub(hub, control);
-    *values = [0; 3];
-    0
-}
-
-fn hub_hears(
-    control: &mut [u8],
-    line: &mut [u8; framer::LINE_SIZE],
-    gather: &mut [u8; packet::MESSAGE_SIZE],
-    answer: &mut [u8],
-    message: &mut [u8],
-    event: u32,
-    values: &mut [usize; 3],
-) -> u32
-    requires { ⌜ hubControlSize ≤ length (now control) ⌝ }
-    ensures { λ r. ⌜ HubTakes (now (control .entry)) (now (line .entry)) (now (gather .entry)) (now (answer .entry)) (now (message .entry)) event r (now (control .exit)) (now (line .exit)) (now (gather .exit)) (now (answer .exit)) (now (message .exit)) (now (values .exit)) ⌝ }
-{
     let taken = hub::hear(
         control::hub(control),
         line,
@@ -366,8 +381,8 @@ pub extern "C" fn mk_reader_time_out(
     numbers::outcome(outcome)
 }
 
-// One event: 130 a command was acted on, 111 a repeat, a refusal, or 0. The values are the answer's size, duration, pitch and
-// number of beeps, and what the sender brought, number and value.
+// One event: 130 a command was acted on, 111 a repeat, what the sender brought (120, 121, 122), a refusal, or 0. The values are the
+// answer's size, duration, pitch and number of beeps, and the value of what the sender brought.
 #[no_mangle]
 pub extern "C" fn mk_reader_hear(
     control: &mut [u8],
@@ -377,21 +392,25 @@ pub extern "C" fn mk_reader_hear(
     answer: &mut [u8],
     copy: &mut [u8],
     event: u32,
-    values: &mut [usize; 6],
+    values: &mut [usize; 5],
 ) -> u32
     ensures { λ r. ⌜ ReaderHears (now (control .entry)) (now (line .entry)) (now (answers .entry)) (now (message .entry)) (now (answer .entry)) (now (copy .entry)) event r (now (control .exit)) (now (line .exit)) (now (answers .exit)) (now (answer .exit)) (now (copy .exit)) (now (values .exit)) ⌝ }
 {
     if control.len() < READER_CONTROL_SIZE {
-        *values = [0; 6];
+        *values = [0; 5];
         return ROOM;
     }
     if answer.len() < reader::READER_ANSWER_SIZE {
-        *values = [0; 6];
+        *values = [0; 5];
         return ROOM;
     }
     if copy.len() < packet::PACKET_SIZE {
-        *values = [0; 6];
+        *values = [0; 5];
         return ROOM;
+    }
+    if LAST_EVENT < event {
+        *values = [0; 5];
+        return 0;
     }
     let before = control::reader(control);
     let taken = reader::hear(
@@ -408,7 +427,7 @@ pub extern "C" fn mk_reader_hear(
     let outcome = taken.outcome;
     control::put_reader(next, control);
     numbers::reader_values(told, taken.answer, outcome, values);
-    numbers::reader(told)
+    numbers::reader(told, outcome)
 }
 
 // The present value of a parameter; 0 where it is not supported.

@@ -188,11 +188,11 @@ pub(crate) fn heard_number(heard: Heard) -> u32
     }
 }
 
-pub(crate) fn reader(told: reader::Told) -> u32
-    ensures { λ r. ⌜ ReaderNumber told r ⌝ }
+pub(crate) fn reader(told: reader::Told, sent: Outcome) -> u32
+    ensures { λ r. ⌜ ReaderNumber told sent r ⌝ }
 {
     match told {
-        reader::Told::Nothing => 0,
+        reader::Told::Nothing => outcome(sent),
         reader::Told::Refused(why) => refusal(why),
         reader::Told::Acted(_) => 130,
         reader::Told::Repeated => 111,
@@ -231,7 +231,7 @@ pub(crate) fn reader_values(
     told: reader::Told,
     answer: usize,
     sent: Outcome,
-    values: &mut [usize; 6],
+    values: &mut [usize; 5],
 )
     ensures { λ _. ⌜ ReaderValues told answer sent (now (values .exit)) ⌝ }
 {
@@ -239,7 +239,6 @@ pub(crate) fn reader_values(
     let duration = row[0];
     let pitch = row[1];
     let count = row[2];
-    let number = outcome(sent) as usize;
     let value = outcome_value(sent);
-    *values = [answer, duration, pitch, count, number, value];
+    *values = [answer, duration, pitch, count, value];
 }

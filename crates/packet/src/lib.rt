@@ -147,18 +147,18 @@ pub fn cause(refusal: Refusal) -> u8
     }
 }
 
-// The byte sum of a body.
+// The byte sum of a body. Two bytes hold it, and in two bytes the compiler sums sixteen bytes at a time.
 fn sum(s: &[u8]) -> usize
     requires { ⌜ length (now s) ≤ bodySize ⌝ }
     ensures { λ r. ⌜ Sum (now (s .entry)) r ⌝ }
 {
-    let mut total: usize = 0;
+    let mut total: u16 = 0;
     let mut i = 0;
     while i < s.len() {
-        total += wide(s[i]);
+        total += s[i] as u16;
         i += 1;
     }
-    total
+    total as usize
 }
 
 // Judges the front of the bytes it is lent; later bytes aren't read.

@@ -7,7 +7,6 @@ use mathlib.Core.List.{List, [], _∷_, _++_, map}
 use native.Mathlib.Omega.{arith}
 use lib.Dec.{eqb}
 use lib.ListN.{length, getD, length-take}
-use lib.Seq.{length-take-le}
 use borrow.Author.Tests.{le-leb, le-ltb, lt-ltb}
 use Rattle.words.specs.Lists.{pick, over}
 use Rattle.words.specs.Machine.{Done, through, given}
@@ -26,19 +25,18 @@ use Rattle.packet.specs.declared.Reply.the-variants as reply
 use Rattle.packet.proofs.Writing.{length-seal, length-body}
 use Rattle.packet.proofs.Marks.{length-unmarked, unmarked-pick}
 use Rattle.framer.specs.Framer as line
-use Rattle.framer.specs.Framer.{hearing, packet, refused as noPacket, framerStep}
+use Rattle.framer.specs.Framer.{hearing, packet, refused as noPacket, silent, framerStep}
 use Rattle.framer.specs.Behind.{framed}
-use Rattle.framer.specs.Halves.{lineIn, keptIn, receivedIn, acceptedOf, Listens, Received, Kept as Keeping}
+use Rattle.framer.specs.Halves.{lineIn, keptIn, receivedIn, acceptedOf, tellsNothing, Listens, Received, Kept as Keeping}
 use Rattle.framer.specs.declared.Event.{Event}
 use Rattle.framer.specs.declared.Halves.{Halves}
 use Rattle.framer.specs.declared.Listened.{Listened}
 use Rattle.framer.specs.declared.Found.the-variants as found
-use Rattle.framer.proofs.TwoHalves.{kept-listened, listened-nothing, listened-refused, listened-packet, line-behind, kept-behind, control-behind}
+use Rattle.framer.proofs.TwoHalves.{line-listened, kept-listened, listened-nothing, listened-refused, listened-packet, line-behind, kept-behind, control-behind}
 use Rattle.sender.specs.Sender.{SenderState, waits, Sent, senderStep}
 use Rattle.sender.specs.Promises as sending
 use Rattle.sender.specs.declared.Sender.{Sender}
 use Rattle.sender.specs.declared.Heard.{Heard}
-use Rattle.sender.specs.declared.Heard.the-variants.{Ack, Nothing}
 use Rattle.sender.proofs.Standing.{control-stands}
 use Rattle.table.specs.Rows.{pairsSize}
 use Rattle.table.specs.Table.{answerData}
@@ -48,8 +46,7 @@ use Rattle.commands.specs.declared.Command.{Command}
 use Rattle.commands.specs.declared.Named.{Named}
 use Rattle.commands.specs.declared.Named.the-variants.{Unknown, Known}
 use Rattle.reader.specs.Reader.{CoreState, Output, refused, repeated, beeped, switched, answered, sent, readerAnswerSize, handshake, ifHandshake, requestBytes, refuses, noPacketStep, isRequest, answerTo, acts, commandStep, knownStep, namedStep, judgedStep, senderHears, packetStep, heardStep, readerStep}
-use Rattle.reader.specs.Promises.{toldOf, answerOf, sentOf, lastAnswerOf, soundCore, coreOf, stateOf, accepts, acceptsName, senderHearing, heeded, senderAfter, coreAfter, readerOf, tooSmall, Steps, senderThrough, controlAfter, Hears, NoRoom, SoundCore, Leaves, Judges, StepOf, ToSender, Settles, Receives}
-use Rattle.reader.specs.declared.Told.the-variants as told
+use Rattle.reader.specs.Promises.{toldOf, answerOf, sentOf, lastAnswerOf, soundCore, coreOf, stateOf, accepts, acceptsName, senderHearing, heeded, senderAfter, coreAfter, readerOf, tooSmall, Steps, senderThrough, controlAfter, Hears, NoRoom, Quiet, SoundCore, Leaves, Judges, ToSender, Settles, Receives}
 use Rattle.reader.specs.declared.Core.{Core}
 use Rattle.reader.specs.declared.Stepped.{Stepped}
 use Rattle.reader.specs.declared.Reader.{Reader}
@@ -198,6 +195,7 @@ module _ {reader : Reader} {line : List ℕ} {e : Event} {l : Listened} {line′
     {answer copy : List ℕ} (a : readerAnswerSize ≤ length answer) (b : packetSize ≤ length copy) where
   -- The core's step on what was told, d, with the control value and the buffers that it leaves.
   settled : {d : Done CoreState Output} {n : ℕ} {s : Sender} {st : Stepped} {r : Taken} {answers message answers′ answer′ copy′ : List ℕ} →
+      silent (framerAt reader line e .told) ≡ false →
       through heardStep (coreAt reader line answers message) (framerAt reader line e .told) ≡ d →
       senderThrough (reader .sender) message (framerAt reader line e .told) ≡ s →
       Kept (coreAt reader line answers message) (receivedIn (l .halves) line′ n) (sending.stateOf s message) d →
@@ -207,8 +205,8 @@ module _ {reader : Reader} {line : List ℕ} {e : Event} {l : Listened} {line′
       Steps d s answers answer copy st answers′ answer′ copy′ →
       Settles (l .halves) n st r →
       Hears reader line answers message answer copy e r line′ answers′ answer′ copy′
-  unfolding tooSmall readerStep framed stateOf controlAfter coreOf
-  settled {d} {n} {s} {st} {r} {answers} {message} t u kept h size idle steps settles =
+  unfolding tooSmall readerStep framed stateOf controlAfter coreOf tellsNothing
+  settled {d} {n} {s} {st} {r} {answers} {message} tells t u kept h size idle steps settles =
       let p = le-ltb (length answer) readerAnswerSize a in
       let q = le-ltb (length copy) packetSize b in
       let yes = accepts (d .told) in
@@ -220,7 +218,7 @@ module _ {reader : Reader} {line : List ℕ} {e : Event} {l : Listened} {line′
       let core = core-back d s (keptIn (next .line) line′) answers message (kept .few) (sym (kept .sender-is)) in
       let long : yes ≡ true → length (d .next .last) ≡ n = λ z. rw (kept .last-is, z) (length-unmarked (receivedIn (l .halves) line′ n) ∙ size z) in
       record {
-        is = simp (p, q)
+        is = simp (p, q, tells)
             (settles .is
             ∙ rw (t, u, steps .told-is, accepts-name (d .told), steps .core-is, steps .count-is, steps .outcome-is, ← control-behind k yes n (d .next .last) long) refl);
         next = simp (p, q) (rw (reader-is, steps .answers-is, t, line-behind k yes n idle, core, last-is) refl);
@@ -230,37 +228,31 @@ module _ {reader : Reader} {line : List ℕ} {e : Event} {l : Listened} {line′
         copy-is = simp (p, q) (steps .copy-is ∙ ap (λ (x : Done CoreState Output). over (sending.copyOf (sentOf (x .told))) copy) (sym t));
       }
 
+  -- The framer tells nothing.
+  pub hear-quiet : {answers message : List ℕ} {r : Taken} → l .found ≡ found.Nothing → Quiet reader (l .halves) r →
+      Hears reader line answers message answer copy e r line′ answers answer copy
+  unfolding tooSmall readerStep framed stateOf controlAfter coreOf tellsNothing silent through senderThrough accepts toldOf answerOf sentOf sending.nameOf sending.copyOf
+  hear-quiet {answers} f quiet =
+      let p = le-ltb (length answer) readerAnswerSize a in
+      let q = le-ltb (length copy) packetSize b in
+      let t = listened-nothing k f in
+      record {
+        is = simp (p, q) (rw t (quiet .is ∙ rw (k .is) refl));
+        next = simp (p, q) (rw (t, quiet .is, line-listened k, kept-listened k) refl);
+        line-is = simp (p, q) (k .buffer-is);
+        answers-is = simp (p, q) (rw t (sym (over-take (lastAnswerOf (reader .«last_answer»)) answers)));
+        answer-is = simp (p, q) (rw t (sym (over-nil answer)));
+        copy-is = simp (p, q) (rw t (sym (over-nil copy)));
+      }
+
   -- What the framer does not let through, and what it finds, by the control value that is taken.
   module _ {c : Core} {answers message : List ℕ} {r : Taken} (sound : SoundCore reader answers c) where
-    pub hear-nothing : {st : Stepped} → l .found ≡ found.Nothing → StepOf c told.Nothing 0 st → Settles (l .halves) 0 st r →
-        Hears reader line answers message answer copy e r line′ answers answer copy
-    unfolding through senderThrough accepts toldOf answerOf sentOf sending.nameOf sending.copyOf coreOf
-    hear-nothing {st} q quiet settles =
-        let n = lastAnswerOf (reader .«last_answer») in
-        let f = rw (sound .is) at (sound .few) in
-        settled {n = 0} {s = reader .sender}
-        (rw (listened-nothing k q) refl)
-        (rw (listened-nothing k q) refl)
-        (kept-still (coreAt reader line answers message) (receivedIn (l .halves) line′ 0) (few-kept line answers message sound) [] refl)
-        (omega arith)
-        (λ z. never (cc))
-        (λ z. never (cc))
-        (record {
-          told-is = rw (quiet .is) refl;
-          count-is = rw (quiet .is) refl;
-          outcome-is = rw (quiet .is) refl;
-          core-is = rw (quiet .is, sound .is, length-take-le n answers f) refl;
-          answers-is = sym (over-take n answers);
-          answer-is = sym (over-nil answer);
-          copy-is = sym (over-nil copy);
-        })
-        settles
-
     pub hear-refused : {st : Stepped} {x : Refusal} {answer′ : List ℕ} → l .found ≡ found.Refused x → Leaves (λ (s : CoreState). noPacketStep s x) c answer st answer′ →
         Settles (l .halves) 0 st r → Hears reader line answers message answer copy e r line′ answers answer′ copy
-    unfolding heardStep senderThrough coreOf
+    unfolding silent heardStep senderThrough coreOf
     hear-refused {x = x} q leaves settles =
         settled {n = 0} {s = reader .sender}
+        (rw (listened-refused k q) refl)
         (rw (listened-refused k q) (through-one heardStep (coreAt reader line answers message) (noPacket x)))
         (rw (listened-refused k q) refl)
         (kept-no-packet (coreAt reader line answers message) (receivedIn (l .halves) line′ 0) (few-kept line answers message sound) x)
@@ -273,11 +265,12 @@ module _ {reader : Reader} {line : List ℕ} {e : Event} {l : Listened} {line′
     pub hear-packet : {h : Head} {answers′ answer′ copy′ : List ℕ} → l .found ≡ found.Packet h →
         Receives (l .halves) c (h .length) line′ answers message answer copy r answers′ answer′ copy′ →
         Hears reader line answers message answer copy e r line′ answers′ answer′ copy′
-    unfolding heardStep senderThrough coreOf senderAfter
+    unfolding silent heardStep senderThrough coreOf senderAfter
     hear-packet {h} q receives =
         let w = listened-packet k q in
         let body : List ℕ = receivedIn (l .halves) line′ (h .length) in
         settled {s = senderAfter (reader .sender) message body}
+        (rw (w .told-is) refl)
         (rw (w .told-is) (through-one heardStep (coreAt reader line answers message) (packet body)))
         (rw (w .told-is) refl)
         (rw (after-by (reader .sender) message (heeded body) (isAnswer (getD body 1 0))) (kept-packet (coreAt reader line answers message) body (few-kept line answers message sound)))

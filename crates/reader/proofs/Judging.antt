@@ -45,7 +45,7 @@ unfolding answerOf
 done-answer [] d bytes = answer-answering bytes
 done-answer (row ∷ rows) d bytes = done-answer rows d bytes
 
-done-sent : (rows : List (List ℕ)) (d : DeviceState) (bytes : List ℕ) → sentOf (doneTold rows d bytes) ≡ []
+pub done-sent : (rows : List (List ℕ)) (d : DeviceState) (bytes : List ℕ) → sentOf (doneTold rows d bytes) ≡ []
 unfolding sentOf
 done-sent [] d bytes = sent-answering bytes
 done-sent (row ∷ rows) d bytes = done-sent rows d bytes

@@ -3,6 +3,7 @@ pub mod Hearing
 pub mod Judging
 pub mod Outcomes
 pub mod Refusing
+pub mod ShortWay
 pub mod States
 pub mod Theorems
 pub mod Unique

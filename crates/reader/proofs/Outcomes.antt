@@ -18,7 +18,8 @@ use Rattle.framer.specs.Framer.{Line, Heard, packet, refused as noPacket, frame
 use Rattle.framer.specs.declared.Event.{Event}
 use Rattle.framer.proofs.Outcomes as framer
 use Rattle.framer.proofs.Outcomes.{brings}
-use Rattle.sender.specs.Sender.{SenderState, Sent, senderStep, heedOf}
+use Rattle.sender.specs.Sender.{senderStep, heedOf}
+use Rattle.sender.specs.declared.Heard.{Heard as Heeded}
 use Rattle.commands.specs.Commands.{DeviceState, Acted, acted, namedBy, lengthAllowed}
 use Rattle.commands.specs.declared.Command.{Command}
 use Rattle.commands.specs.declared.Named.{Named}
@@ -30,7 +31,7 @@ use Rattle.reader.specs.Reader.{CoreState, ReaderState, Output, repeated
 
 -- CMD_ACK or CMD_NAK goes to the sender; a refusal by number 4 to 9 changes nothing; a resent equal is answered again; a command is acted on.
 pub data Outcome (c : CoreState) (body : List ℕ) : Done CoreState Output → Type 0 where
-  heeds : (d : Done SenderState Sent) → Outcome c body (senderHears c d)
+  heeds : (h : Heeded) → Outcome c body (senderHears c (senderStep (c .sender) h))
   turns : {r : Refusal} → 4 ≤ numberOf r → (causeOf r ≡ 0 → ⊥) → Outcome c body (refuses c r)
   repeats : resentEqual (c .last) body ≡ true → Outcome c body (record { next = c; told = repeated ∷ given answered (c .lastAnswer) })
   acts-on : (k : Command) {next : DeviceState} {rows : List (List ℕ)} → Does (c .device) (acted next rows) → Outcome c body (acts c k body (acted next rows))
@@ -61,7 +62,7 @@ module _ (c : CoreState) (body : List ℕ) where
   pub packet-outcome : Outcome c body (packetStep c body)
   unfolding packetStep judgedStep
   packet-outcome =
-      by-test (isAnswer (getD body 1 0)) (λ a. heeds (senderStep (c .sender) (heedOf host (getD body 1 0) (getD body 2 0) (getD body 3 0) (dataIn body))))
+      by-test (isAnswer (getD body 1 0)) (λ a. heeds (heedOf host (getD body 1 0) (getD body 2 0) (getD body 3 0) (dataIn body)))
       (λ a. by-test (eqb (getD body 2 0) host)
       (λ s. by-test (statusAllowed (getD body 1 0) (getD body 3 0)) (λ t. named-outcome (namedBy (getD body 1 0)))
       (λ t. turned refusal.Status (omega arith) (λ z. omega arith)))

@@ -36,7 +36,7 @@ use Rattle.reader.specs.declared.Started.{Started}
 use Rattle.reader.specs.declared.Taken.{Taken}
 use Rattle.reader.specs.declared.Told.the-variants as told
 use Rattle.reader.proofs.Answering.{answer-answering, sent-answering}
-use Rattle.reader.proofs.Theorems.{refusal-named, refusal-changes, refusal-cause}
+use Rattle.reader.proofs.Theorems.{refusal-named, refusal-changes, refusal-cause, sender-unrefused}
 
 -- ---- a start and a time-out are the sender's
 
@@ -156,3 +156,12 @@ module _ {reader : Reader} {line answers message answer copy : List ℕ} {e : Ev
   -- A refused event at the reader.
   pub hear-refuses : ReaderRefuses x e reader r line line′ answers answers′ message answer answer′ copy copy′
   hear-refuses = refuses-by (tooSmall answer copy) refl
+
+-- Of an event the reader alone refuses: what the sender brings is never a refusal, with rooms of any size.
+pub hear-unrefused : {reader : Reader} {line answers message answer copy : List ℕ} {e : Event} {r : Taken} {line′ answers′ answer′ copy′ : List ℕ} {x : Refusal} →
+    Hears reader line answers message answer copy e r line′ answers′ answer′ copy′ → r .outcome ≡ outcome.Refused x → ⊥
+hear-unrefused {reader} {line} {answers} {message} {answer} {copy} {e = e} {r = r} {x = x} k q = by (tooSmall answer copy) refl
+  where
+    by : (small : Bool) → tooSmall answer copy ≡ small → ⊥
+    by true s = let i = simp s at (k .is) in never (cc)
+    by false s = let i = simp s at (k .is) in sender-unrefused (stateOf reader line answers message) e {x = x} (cc)

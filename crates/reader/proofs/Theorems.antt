@@ -24,14 +24,19 @@ use Rattle.framer.specs.declared.Event.{Event}
 use Rattle.framer.proofs.Outcomes as framer
 use Rattle.framer.proofs.Outcomes.{brings}
 use Rattle.sender.specs.Sender.{Sent, waits, senderStep, heedOf}
+use Rattle.sender.specs.Promises.{nameOf}
+use Rattle.sender.specs.declared.Outcome.the-variants as outcome
+use Rattle.sender.proofs.Theorems.{heard-unrefused}
 use Rattle.table.proofs.Theorems.{AllAllowed}
 use Rattle.commands.specs.Commands.{DeviceState, namedBy, lengthAllowed, denied, acted, effect}
 use Rattle.commands.specs.declared.Command.{Command}
 use Rattle.commands.specs.declared.Named.the-variants.{Known}
 use Rattle.commands.proofs.Theorems.{no-answer, does-allowed}
 use Rattle.reader.specs.Reader.{CoreState, ReaderState, Output, refused, repeated, beeped, switched, sent, ifHandshake, refusalAnswer, refuses, noPacketStep, answerTo, acts, commandStep, knownStep, namedStep, judgedStep, senderHears, packetStep, heardStep, readerStep, answered}
-use Rattle.reader.specs.Promises.{toldOf}
+use Rattle.reader.specs.Promises.{toldOf, sentOf}
 use Rattle.reader.specs.declared.Told.the-variants as told
+use Rattle.reader.proofs.Answering.{sent-answering, sent-sent}
+use Rattle.reader.proofs.Judging.{done-sent}
 use Rattle.reader.proofs.Outcomes.{Outcome, heeds, turns, repeats, acts-on, Happens, nothing, no-packet, packet-heard, packet-outcome, event-happens}
 
 -- ---- refusals
@@ -62,7 +67,7 @@ same-refusal {c} {y} {r} {xs} late l n q e =
 packet-refuses : {c : CoreState} {body : List ℕ} {d : Done CoreState Output} {r : Refusal} {xs : List Output} → Outcome c body d → d .told ≡ refused r ∷ xs →
     (4 ≤ numberOf r) × Refuses c r xs d
 unfolding senderHears acts
-packet-refuses (heeds d) q = sent-first (d .told) q
+packet-refuses {c} (heeds h) q = sent-first (senderStep (c .sender) h .told) q
 packet-refuses {c = c} {r = r} (turns {r = y} h n) q =
     let f : y ≡ r = cc in
     (rw (← f) h, same-refusal false (simp (lt-leb (numberOf y) 3 (omega arith))) n q refl)
@@ -143,6 +148,31 @@ refusal-named s e {r} q =
     let p = named-first (readerStep s e .told) q in
     p .is ∙ ap (λ (xs : List Output). refused r ∷ xs) (refusal-answered s e (p .is))
 
+-- ---- the sender refuses nothing that it hears
+
+packet-unrefused : {c : CoreState} {body : List ℕ} {d : Done CoreState Output} {x : Refusal} → Outcome c body d → nameOf (sentOf (d .told)) ≡ outcome.Refused x → ⊥
+unfolding senderHears acts sentOf nameOf
+packet-unrefused {c} (heeds h) q = heard-unrefused (c .sender) h (rw (sent-sent (senderStep (c .sender) h .told)) at q)
+packet-unrefused {c} (turns {r} h n) q = let z = rw (sent-answering (ifHandshake (c .device) (nakBytes reader r))) at q in never (cc)
+packet-unrefused {c} (repeats e) q = let z = rw (sent-answering (c .lastAnswer)) at q in never (cc)
+packet-unrefused {c} {body} (acts-on k {next} {rows} d) q = let z = rw (done-sent rows next (answerTo (c .device) k (dataIn body))) at q in never (cc)
+
+no-packet-unrefused : (c : CoreState) (y : Refusal) {x : Refusal} (b : Bool) → waits (c .sender) ≡ b → nameOf (sentOf (noPacketStep c y .told)) ≡ outcome.Refused x → ⊥
+unfolding noPacketStep sentOf nameOf
+no-packet-unrefused c y true w q = let z = simp w at q in never (cc)
+no-packet-unrefused c y false w q = let z = simp (w, sent-answering (ifHandshake (c .device) (nakBytes reader y))) at q in never (cc)
+
+happens-unrefused : {c : CoreState} {d : Done CoreState Output} {x : Refusal} → Happens c d → nameOf (sentOf (d .told)) ≡ outcome.Refused x → ⊥
+unfolding sentOf nameOf
+happens-unrefused nothing q = never (cc)
+happens-unrefused {c} (no-packet y h n) q = no-packet-unrefused c y (waits (c .sender)) refl q
+happens-unrefused (packet-heard body k) q = packet-unrefused k q
+
+-- The sender refuses a start alone, and no event brings one.
+pub sender-unrefused : (s : ReaderState) (e : Event) {x : Refusal} → nameOf (sentOf (readerStep s e .told)) ≡ outcome.Refused x → ⊥
+unfolding readerStep framed
+sender-unrefused s e q = happens-unrefused (event-happens s e) q
+
 -- ---- commands that 4 to 7 let through
 
 -- Source, status, opcode and data length are right.
@@ -215,7 +245,7 @@ answers-heeded c body e = simp e
 
 outcome-allowed : {c : CoreState} {body : List ℕ} {d : Done CoreState Output} → Outcome c body d → AllAllowed (c .device .values) → AllAllowed (d .next .device .values)
 unfolding senderHears acts
-outcome-allowed (heeds d) k = k
+outcome-allowed (heeds h) k = k
 outcome-allowed (turns h n) k = k
 outcome-allowed (repeats e) k = k
 outcome-allowed (acts-on c does) k = does-allowed does k

@@ -13,7 +13,7 @@ use Rattle.packet.specs.Sizes.{headSize, checksumSize, packetSize}
 use Rattle.packet.specs.declared.Refusal.the-variants as refusal
 use Rattle.framer.specs.Framer as Line
 use Rattle.framer.specs.Framer.{packet, refused as noPacket, framerStep}
-use Rattle.framer.specs.Halves.{lineIn, keptIn, receivedIn, idleHalves, listenedOf, bufferAfter, acceptedOf}
+use Rattle.framer.specs.Halves.{lineIn, keptIn, receivedIn, idleHalves, listenedOf, bufferAfter, tellsNothing, acceptedOf}
 use Rattle.framer.specs.declared.Halves.{Halves}
 use Rattle.framer.specs.declared.Event.{Event}
 use Rattle.sender.specs.Sender.{Sent, senderStep, heedOf}
@@ -145,11 +145,13 @@ senderThrough s message [] = s
 senderThrough s message (packet body ∷ hs) = senderAfter s message body
 senderThrough s message (noPacket r ∷ hs) = s
 
+-- Where the framer tells nothing, only its own part of the control value is written. The rest stays as it was read: also the length of an answer
+-- that its buffer cannot have, which is still read as none.
 unfoldable pub controlAfter : Reader → List ℕ → List ℕ → Event → Done ReaderState Output → Reader
 controlAfter reader line message e d =
     record {
       line = pick (accepts (d .told)) (acceptedOf (listenedOf (reader .line) line e .halves) (length (d .next .core .last))) (listenedOf (reader .line) line e .halves);
-      «last_answer» = length (d .next .core .lastAnswer);
+      «last_answer» = pick (tellsNothing (reader .line) line e) (reader .«last_answer») (length (d .next .core .lastAnswer));
       device = deviceFrom (d .next .core .device);
       sender = senderThrough (reader .sender) message (framerStep (lineIn (reader .line) line) e .told);
     }
@@ -191,6 +193,19 @@ pub record TimesOut (reader : Reader) (message copy : List ℕ) (r : Started) (c
 
 pub record NoRoom (reader : Reader) (r : Taken) : Type 0 where
   pub is : r ≡ record { reader = reader; told = told.Refused refusal.Room; answer = 0; outcome = outcome.Nothing }
+
+-- The framer tells nothing.
+abbrev pub quietOf : Reader → Halves → Taken
+quietOf reader h =
+    record {
+      reader = record { line = h; «last_answer» = reader .«last_answer»; device = reader .device; sender = reader .sender };
+      told = told.Nothing;
+      answer = 0;
+      outcome = outcome.Nothing;
+    }
+
+pub record Quiet (reader : Reader) (h : Halves) (r : Taken) : Type 0 where
+  pub is : r ≡ quietOf reader h
 
 pub record SoundCore (reader : Reader) (answers : List ℕ) (r : Core) : Type 0 where
   pub is : r ≡ soundCore reader

@@ -32,7 +32,7 @@ ghost use Rattle.table.specs.Rows.{pairsSize};
 ghost use Rattle.table.specs.Promises.{valuesOf};
 ghost use Rattle.reader.specs.Reader.{readerAnswerSize, judgedStep, knownStep, noPacketStep, refuses, ifHandshake, requestBytes, answerTo};
 ghost use Rattle.commands.specs.Promises.{deviceOf};
-ghost use Rattle.reader.specs.Promises.{SwitchedOn, PowersUp, Hears, Starts, TimesOut, NoRoom, SoundCore, Handshake, Writes, CoreWith, ReaderOf, StepOf, SentBy, Joined, Accepts, ToSender, Leaves, Judges, Performs, Again, Acts, Filled, Settles, Receives};
+ghost use Rattle.reader.specs.Promises.{SwitchedOn, PowersUp, Hears, Starts, TimesOut, NoRoom, Quiet, SoundCore, Handshake, Writes, CoreWith, ReaderOf, StepOf, SentBy, Joined, Accepts, ToSender, Leaves, Judges, Performs, Again, Acts, Filled, Settles, Receives};
 
 // The longest answer: a PARAM_SEND with all parameters.
 pub const READER_ANSWER_SIZE: usize = packet::HEAD_SIZE + table::PAIRS_SIZE + packet::CHECKSUM_SIZE;
@@ -168,16 +168,19 @@ pub fn hear(
     if copy.len() < PACKET_SIZE {
         return no_room(reader);
     }
-    let core = sound_core(reader, answers);
     let listened = framer::listen(reader.line, line, event);
     let halves = listened.halves;
     let found = listened.found;
     match found {
-        Found::Nothing => settle(halves, 0, step(core, Told::Nothing, 0)),
-        Found::Refused(refusal) => settle(halves, 0, no_packet(core, refusal, answer)),
+        Found::Nothing => quiet(reader, halves),
+        Found::Refused(refusal) => settle(
+            halves,
+            0,
+            no_packet(sound_core(reader, answers), refusal, answer),
+        ),
         Found::Packet(head) => received(
             halves,
-            core,
+            sound_core(reader, answers),
             head.length,
             line,
             answers,
@@ -195,6 +198,25 @@ fn no_room(reader: Reader) -> Taken
     Taken {
         reader,
         told: Told::Refused(Refusal::Room),
+        answer: 0,
+        outcome: Outcome::Nothing,
+    }
+}
+
+// The framer tells nothing: only its own part of the control value is written, and all else stays as it was read.
+fn quiet(reader: Reader, halves: Halves) -> Taken
+    ensures { λ r. ⌜ Quiet reader halves r ⌝ }
+{
+    let device = reader.device;
+    let sender = reader.sender;
+    Taken {
+        reader: Reader {
+            line: halves,
+            last_answer: reader.last_answer,
+            device,
+            sender,
+        },
+        told: Told::Nothing,
         answer: 0,
         outcome: Outcome::Nothing,
     }

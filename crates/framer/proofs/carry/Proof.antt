@@ -5,14 +5,8 @@ use borrow.Author.Needs.{needs}
 use Rattle.framer.proofs.carry.Statement.{statement}
 use Rattle.framer.proofs.carry.Tie as tie
 
-deaf-requires : tie.Need-deaf-requires
-deaf-requires c κs = search needs
-
-moved-requires : tie.Need-moved-requires
-moved-requires c κs = search needs
-
 returns : tie.Need-returns
-returns c = carry-deaf (search needs) (record { each = λ i. omega (arith, c .before .before .before .before .slice-known .given i) }) (c .before .before .if1 .taken) (c .before .deaf .ensures) (c .moved .ensures)
+returns c = carry-deaf (search needs) (record { each = λ i. omega (arith, c .before .slice-known .given i) }) (c .if1 .taken)
 
 place-requires : tie.Need-place-requires
 place-requires c κs = search needs
@@ -36,27 +30,18 @@ same-length : tie.Need-same-length
 same-length c = search needs
 
 returns-2 : tie.Need-returns-2
-returns-2 c =
-    let b = c .before .before .before .before .before in
-    carry-left (search needs) (b .before .if1 .left) (b .place .ensures) (c .before .before .before .inside .ensures) (c .if2 .taken)
-
-moved-requires-2 : tie.Need-moved-requires-2
-moved-requires-2 c κs = search needs
+returns-2 c = carry-left (c .before .before .before .before .before .place .ensures) (c .before .before .before .inside .ensures) (c .if2 .taken)
 
 same-length-2 : tie.Need-same-length-2
 same-length-2 c = search needs
 
 returns-3 : tie.Need-returns-3
-returns-3 c =
-    let b = c .before .before .before .before .before .before in
-    carry-on (search needs) (b .before .if1 .left) (b .place .ensures) (c .moved2 .ensures) (c .before .before .before .before .inside .ensures) (c .before .if2 .left) (record { each = λ i. omega (arith, c .before .before .slice-known2 .given i) })
+returns-3 c = carry-on (search needs) (c .before .before .before .before .before .before .if1 .left) (c .before .before .before .before .before .place .ensures) (c .before .before .before .inside .ensures) (c .if2 .left) (record { each = λ i. omega (arith, c .before .slice-known2 .given i) })
 
 pub carry-spec : {M : Type 1} → statement M
 carry-spec =
     tie.close
     (tie.spec
-    deaf-requires
-    moved-requires
     returns
     place-requires
     add-end
@@ -66,6 +51,5 @@ carry-spec =
     inside-requires
     same-length
     returns-2
-    moved-requires-2
     same-length-2
     returns-3)

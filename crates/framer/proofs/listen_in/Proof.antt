@@ -30,7 +30,7 @@ same-length : tie.Need-same-length
 same-length c = search needs
 
 returns : tie.Need-returns
-returns c = listens (search needs) (c .before .before .before .before .before .before .place .ensures) (c .moved .ensures) (c .before .before .before .before .hear .ensures) (record { each = λ i. omega (arith, c .before .before .slice-known2 .given i) })
+returns c = listens (search needs) (c .before .before .before .before .before .before .before .place .ensures) (c .moved .ensures) (c .before .before .before .before .hear .ensures) (record { each = λ i. omega (arith, c .before .before .slice-known2 .given i) })
 
 pub listen-in-spec : {M : Type 1} → statement M
 listen-in-spec =

@@ -3,6 +3,7 @@
 use Prim.Native.Nat.{_-_}
 use borrow.Author.Needs.{needs}
 use native.Mathlib.Omega.{arith}
+use mathlib.Core.Path.{refl}
 use lib.ListN.{length}
 use Rattle.packet.proofs.Sums.{Summing, summing-none, summing-more, summing-all}
 use Rattle.packet.proofs.sum.Statement.{statement}
@@ -17,14 +18,14 @@ abbrev μ-loop : tie.MeasureT-loop
 loop-holds : tie.Need-loop-holds Inv-loop μ-loop
 loop-holds c = summing-none
 
-shared-slice-read-wide : tie.Need-shared-slice-read-wide Inv-loop μ-loop
-shared-slice-read-wide c = omega arith
+shared-slice-read-total : tie.Need-shared-slice-read-total Inv-loop μ-loop
+shared-slice-read-total c = omega arith
 
-wide-requires : tie.Need-wide-requires Inv-loop μ-loop
-wide-requires c κs = search needs
+cast-total : tie.Need-cast-total Inv-loop μ-loop
+cast-total c = omega (arith, c .shared-slice-known .given (c .before .before .loop .i))
 
 add-total : tie.Need-add-total Inv-loop μ-loop
-add-total c = omega arith
+add-total c = omega (arith, c .shared-slice-known .given (c .before .before .loop .i))
 
 add-i : tie.Need-add-i Inv-loop μ-loop
 add-i c = omega arith
@@ -33,7 +34,10 @@ loop-less : tie.Need-loop-less Inv-loop μ-loop
 loop-less c = omega arith
 
 loop-again : tie.Need-loop-again Inv-loop μ-loop
-loop-again c = summing-more (c .before .before .before .loop .inv) (omega arith) (c .wide .ensures .is) (omega arith)
+loop-again c = summing-more (c .before .before .loop .inv) (omega arith) refl (omega (arith, c .shared-slice-known .given (c .before .before .loop .i)))
+
+cast-result : tie.Need-cast-result Inv-loop μ-loop
+cast-result c = omega arith
 
 returns : tie.Need-returns Inv-loop μ-loop
 returns c = summing-all (c .before .loop .inv) (omega arith) (omega arith)
@@ -45,10 +49,11 @@ sum-spec =
     Inv-loop
     μ-loop
     loop-holds
-    shared-slice-read-wide
-    wide-requires
+    shared-slice-read-total
+    cast-total
     add-total
     add-i
     loop-less
     loop-again
+    cast-result
     returns)

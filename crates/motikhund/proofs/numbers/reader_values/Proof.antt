@@ -16,17 +16,11 @@ array-read-pitch c = search needs
 array-read-count : tie.Need-array-read-count
 array-read-count c = search needs
 
-outcome-requires : tie.Need-outcome-requires
-outcome-requires c κs = search needs
-
-cast-number : tie.Need-cast-number
-cast-number c = search needs
-
 outcome-value-requires : tie.Need-outcome-value-requires
 outcome-value-requires c κs = search needs
 
 returns : tie.Need-returns
-returns c = reader-values (c .before .before .before .reader-row .ensures) (c .before .before .outcome .ensures) (c .before .outcome-value .ensures)
+returns c = reader-values (c .before .before .reader-row .ensures) (c .before .outcome-value .ensures)
 
 pub reader-values-spec : {M : Type 1} → statement M
 reader-values-spec =
@@ -36,7 +30,5 @@ reader-values-spec =
     array-read-duration
     array-read-pitch
     array-read-count
-    outcome-requires
-    cast-number
     outcome-value-requires
     returns)
