@@ -191,6 +191,55 @@ static inline size_t make_packet(
     return seal(packet);
 }
 
+// ---- control values
+
+// Where their parts stand (crates/motikhund/specs/Control.antt). A number has eight bytes, low byte first. Who changes
+// this raises MK_VERSION.
+enum {
+    LINE_COUNT = 0, // of framer, hub and reader: the bytes of the packet begun
+    LINE_DEAF = 8,
+    LINE_SECOND = 9, // of hub and reader: whether the second half receives
+    LINE_LAST = 10,  // and the length of the last accepted packet
+    HUB_BARRED = 18,
+    HUB_BEGUN = 19, // then code type and count
+    HUB_CODE = 20,
+    HUB_COUNT = 21,
+    READER_ANSWERED = 18,
+    READER_ACK_NAK = 32, // the present value of 9Fh
+    READER_SWITCHES = 44,
+    READER_SENDER = 48,
+    SENDER_OUT = 0,
+    SENDER_FAILED = 2,
+    SENDER_LENGTH = 3, // then three numbers more
+    NUMBER = 8
+};
+
+// The flags behind the framer's bytes; 0 ends them.
+static const uint8_t hub_flags[] = {LINE_DEAF, LINE_SECOND, HUB_BARRED, HUB_BEGUN, 0};
+static const uint8_t reader_flags[] = {LINE_DEAF, LINE_SECOND, READER_SWITCHES, READER_SWITCHES + 1,
+    READER_SWITCHES + 2, READER_SWITCHES + 3, READER_SENDER + SENDER_OUT, READER_SENDER + SENDER_FAILED, 0};
+
+static inline uint64_t number_at(const uint8_t *at)
+{
+    uint64_t number = 0;
+    for (size_t i = 0; i < NUMBER; i++)
+        number |= (uint64_t)at[i] << 8 * i;
+    return number;
+}
+
+static inline void put_number(uint8_t *at, uint64_t number)
+{
+    for (size_t i = 0; i < NUMBER; i++)
+        at[i] = (uint8_t)(number >> 8 * i);
+}
+
+// A flag that is not 1 is not set.
+static inline void due_flags(uint8_t *control, const uint8_t *flags)
+{
+    for (; *flags != 0; flags++)
+        control[*flags] = control[*flags] == 1;
+}
+
 // ---- under test: buffers for the archive's calls, and the machines
 
 static struct {
@@ -253,9 +302,9 @@ static inline mk_reader_told reader_takes(const char *text)
 {
     uint32_t events[EVENTS];
     size_t count = read_events(text, events);
-    mk_reader_told told = {MK_NOTHING, 0, {0, 0, 0}, {MK_NOTHING, 0}};
+    mk_reader_told told = {MK_NOTHING, 0, {0, 0, 0}, 0};
     for (size_t i = 0; i < count; i++) {
-        CHECK(told.number == MK_NOTHING && told.answer == 0 && told.sent.number == MK_NOTHING);
+        CHECK(told.number == MK_NOTHING && told.answer == 0);
         told = mk_reader_event(reader, events[i]);
     }
     return told;
@@ -276,10 +325,10 @@ static inline mk_hub_told hub_gets(const uint8_t *packet, size_t size)
 
 static inline mk_reader_told reader_gets(const uint8_t *packet, size_t size)
 {
-    mk_reader_told told = {MK_NOTHING, 0, {0, 0, 0}, {MK_NOTHING, 0}};
+    mk_reader_told told = {MK_NOTHING, 0, {0, 0, 0}, 0};
     CHECK(size <= MK_PACKET_SIZE);
     for (size_t i = 0; i < size && i < MK_PACKET_SIZE; i++) {
-        CHECK(told.number == MK_NOTHING && told.answer == 0 && told.sent.number == MK_NOTHING);
+        CHECK(told.number == MK_NOTHING && told.answer == 0);
         told = mk_reader_event(reader, packet[i]);
     }
     CHECK(mk_reader_event(reader, MK_CHARACTER_GAP).number == MK_NOTHING);
@@ -314,9 +363,17 @@ static inline bool reader_said(mk_reader_told told, uint32_t number, const char 
     return told.number == number && reads(reader->answer, told.answer, answer);
 }
 
-static inline bool is_sent(mk_sent sent, uint32_t number, size_t value)
+static inline bool brought(mk_outcome outcome, uint32_t number, size_t value)
 {
-    return sent.number == number && sent.value == value;
+    return outcome.number == number && outcome.value == value;
+}
+
+// What the reader's sender brought at an event: the same numbers, and no answer.
+static inline mk_outcome of_sender(mk_reader_told told)
+{
+    mk_outcome outcome = {told.number, told.value};
+    CHECK(told.answer == 0 && told.beep.count == 0);
+    return outcome;
 }
 
 // ---- all tests of a program

@@ -13,15 +13,35 @@
 //
 // Most firmware needs only the last part of this file: the types mk_hub, mk_reader, mk_framer and mk_sender hold
 // all buffers, and short functions work on them. bindings/c/example.c is a whole program. To build from the root of
-// the repository:
+// the repository, or with what `bindings/install PREFIX` put below PREFIX (PKG_CONFIG_PATH is PREFIX/lib/pkgconfig):
 //
-//     gcc -std=c11 -I bindings/c firmware.c target/staticlib/libmotikhund.a
+//     gcc -std=c11 -I bindings/c firmware.c target/staticlib/libmotikhund.a -Wl,--gc-sections
+//     gcc -std=c11 firmware.c $(pkg-config --cflags --libs motikhund) -Wl,--gc-sections
 //
-// The archive is for x86-64 and needs no other library. No call allocates, waits, or keeps anything between calls,
-// so machines may be used side by side in threads, each machine by one thread at a time. Each call is proved
-// (crates/motikhund) to end and to read and write only what it is lent, whatever bytes stand there. Only this is left
-// to you, as C cannot say it: every pointer is valid for the length given with it, or for the number in its
-// brackets, and is not NULL, even for a length of 0; and the buffers that one call is lent do not overlap.
+// With --gc-sections a program carries only the calls that it uses: one with a hub alone has no code of the reader.
+//
+// The archive is for x86-64 Linux and needs no other library. No call allocates, waits, or keeps anything between
+// calls. Each is proved (crates/motikhund) to end and to read and write only what it is lent, whatever bytes stand
+// there. Only this is left to you, as C cannot say it: every pointer is valid for the length given with it, or for the
+// number in its brackets, and is not NULL, even for a length of 0; and the buffers that one call is lent do not
+// overlap. They are bytes, so they may stand anywhere: no alignment is asked for.
+//
+// Threads and interrupts
+//
+// A machine (a control value with its buffers) is used from one context at a time; different machines share nothing. An
+// event's cost has a bound: most events of a line are a mk_go_on of some thirty instructions without a loop; the last
+// byte of a packet takes a hub some 2,500 at most (the packet is summed and compared, a message of 4,096 bytes copied),
+// a reader some 10,000 (a PARAM_REQUEST with 251 numbers). So there are two right ways to receive by interrupt:
+//
+// - The interrupt puts what came into a queue, in order, and the main loop gives it to the machine. The plain way.
+// - The interrupt makes every call of this machine itself and hands on what was told, with a copy of the bytes that it
+//   names: the next event may write over them. Then the main loop calls nothing of this machine, or does so with that
+//   interrupt masked: mk_reader_send, mk_reader_expire and mk_reader_parameter too.
+//
+// mk_go_on in the interrupt and the other calls in the main loop is wrong on one machine: the interrupt may come while
+// the main loop is inside a call, and an event that mk_go_on left must be taken before any later one. It becomes right
+// where the interrupt gives an event to mk_go_on only if none is queued and the main loop is in no call of this
+// machine, and queues it else. That is the first way again, with a queue that is empty most of the time.
 //
 // Timing and duties (more in docs/PROTOCOL.md §15)
 //
@@ -44,9 +64,12 @@
 //   one before it: were the first copy of such a packet lost, the hub would take its resend for one of the packet
 //   before. Two equal pieces in a row inside one message are open to the same mistake.
 // - MK_DELIVERED: the hub has the message. MK_FAILED: it may have it all the same, and only its answers were lost.
+// - A silence that grows may be given again. A second character gap does nothing. A message gap behind a character gap
+//   does what it does alone, and a second message gap nothing more. So a timer that fires twice does no harm.
 // - A reader's permanent values outlast power-off where you keep the bytes of its control value. Put them back, power
 //   up, and read every parameter: if one is outside its range, as in a memory that is blank (all FFh, or all 0),
-//   nothing was kept, and mk_reader_on is due. A hub keeps nothing.
+//   nothing was kept, and mk_reader_on is due. So it is after an update of the library (MK_VERSION). A hub keeps
+//   nothing.
 #ifndef MOTIKHUND_H
 #define MOTIKHUND_H
 
@@ -54,12 +77,22 @@
 #include <stddef.h>
 #include <stdint.h>
 
+// The version of header, archive and Rust crate; as a number major * 10,000 + minor * 100 + patch. It rises with each
+// change of what stands where in a control value. So control values are not kept over an update: whoever stores one
+// stores MK_VERSION with it, and with any other version initialises instead of putting it back.
+#define MK_VERSION "0.2.0"
+#define MK_VERSION_NUMBER 200
+
 #ifdef __cplusplus
-static_assert(sizeof(size_t) == 8, "the archive is for x86-64");
+#define MK_ASSERT(truth, why) static_assert(truth, why)
+#define MK_ALIGNMENT(type) alignof(type)
 extern "C" {
 #else
-_Static_assert(sizeof(size_t) == 8, "the archive is for x86-64");
+#define MK_ASSERT(truth, why) _Static_assert(truth, why)
+#define MK_ALIGNMENT(type) _Alignof(type)
 #endif
+
+MK_ASSERT(sizeof(size_t) == 8, "the archive is for x86-64 Linux");
 
 // ---- constants
 //
@@ -71,6 +104,7 @@ enum {
     MK_HUB_CONTROL_SIZE = 29,    // a hub's
     MK_SENDER_CONTROL_SIZE = 35, // a sender's
     MK_READER_CONTROL_SIZE = 83, // a reader's
+    MK_GOING_SIZE = 10,          // the front of a hub's or a reader's, for mk_go_on
     MK_PACKET_SIZE = 257,        // the longest packet with its checksum: building, a framer's line, a copy
     MK_LINE_SIZE = 514,          // the line of hub and reader: the packet that comes in, and the last accepted one
     MK_MESSAGE_SIZE = 4096,      // the longest message, its code type not counted
@@ -83,12 +117,12 @@ enum {
 // Events on a line.
 enum {
     MK_CHARACTER_GAP = 256, // 0 to 255 are the byte that came; this is a silence that ends a packet
-    MK_MESSAGE_GAP = 257    // a longer silence; any number above means it too
+    MK_MESSAGE_GAP = 257    // a longer silence; any number above is no event, does nothing and tells MK_NOTHING
 };
 
 // What a sender hears of the host, and what mk_answer writes.
 enum {
-    MK_REPLY_ACK = 256,      // mk_answer: an ACK; 0 to 255 are a NAK with that cause
+    MK_REPLY_ACK = 256,      // mk_answer: an ACK; 0 to 255 are a NAK with that cause; any number above writes nothing
     MK_HEARD_ACK = 256,      // sender: an ACK came; 0 to 255 are a NAK with that cause
     MK_HEARD_TIME_OUT = 257, // sender: no answer came in time
     MK_HEARD_NOTHING = 258   // sender: nothing that it heeds; any number above means it too
@@ -266,32 +300,37 @@ enum {
 };
 // Of mk_reader_hear:
 enum {
-    MK_READER_VALUE_ANSWER = 0,     // so many bytes of the answer room are to be sent
-    MK_READER_VALUE_DURATION = 1,   // MK_ACTED: the beep's, MK_DURATION_..
-    MK_READER_VALUE_PITCH = 2,      // MK_ACTED: the beep's, MK_PITCH_..
-    MK_READER_VALUE_COUNT = 3,      // MK_ACTED: how many beeps; 0: none
-    MK_READER_VALUE_SENT = 4,       // the number that mk_sender_hear would tell of an ACK or NAK that came
-    MK_READER_VALUE_SENT_VALUE = 5, // and its value
-    MK_READER_VALUES = 6
+    MK_READER_VALUE_ANSWER = 0,   // so many bytes of the answer room are to be sent
+    MK_READER_VALUE_DURATION = 1, // MK_ACTED: the beep's, MK_DURATION_..
+    MK_READER_VALUE_PITCH = 2,    // MK_ACTED: the beep's, MK_PITCH_..
+    MK_READER_VALUE_COUNT = 3,    // MK_ACTED: how many beeps; 0: none
+    MK_READER_VALUE_SENT = 4,     // MK_COPY: so many bytes of the copy room are to be sent
+                                  // MK_DELIVERED, MK_FAILED: the message's marked copies
+    MK_READER_VALUES = 5
 };
 // Of mk_reader_switches, each 1 or 0:
 enum {
     MK_SWITCH_SCANNING = 0, // scanning is enabled
-    MK_SWITCH_SESSION = 1, // a session is on
-    MK_SWITCH_AIM = 2,     // the aim is on
-    MK_SWITCH_LED = 3,     // the LED is on
+    MK_SWITCH_SESSION = 1,  // a session is on
+    MK_SWITCH_AIM = 2,      // the aim is on
+    MK_SWITCH_LED = 3,      // the LED is on
     MK_SWITCH_VALUES = 4
 };
 
 // ---- the calls of the archive
 //
-// A control value is all that a machine remembers beside its buffers. It stands in bytes of yours, and any bytes
-// are one. Where a call asks for a size, more may be lent; bytes past what is written stay as they were.
+// A control value is all that a machine remembers beside its buffers. It stands in bytes of yours, and any bytes are
+// one: a flag's byte that is not 1 is read as not set, a count that a buffer cannot have as 0. Where a call asks for a
+// size, more may be lent; bytes past what is written stay as they were.
 //
 // With MK_ROOM and MK_START nothing is changed but the numbers told (head, size, value, values), which are 0; they are
 // 0 too where a result has none. With any other refusal of an event only its answer, the byte that came in the line,
 // and the control value are written: the packet begun has ended, MK_LENGTH and MK_CHECKSUM make deaf, MK_BARRED bars
-// the hub with nothing gathered, and all else in it stays as it was read.
+// the hub with nothing gathered, and all else in it stays as it was read (so a flag's byte that was neither 0 nor 1 is
+// written as 0).
+//
+// An event above MK_MESSAGE_GAP changes nothing at all and tells MK_NOTHING, with values of 0. So does a reply above
+// MK_REPLY_ACK. MK_ROOM is tested before, as at every call.
 
 // Judges the front of some bytes. MK_PACKET, and the head. The data begin at bytes[4] and have length - 4 bytes; the
 // packet has length + 2 bytes, and those behind it are not read. Or MK_CUT (too few bytes, or none), MK_LENGTH,
@@ -304,7 +343,7 @@ uint32_t mk_build(uint8_t *room, size_t room_len, uint8_t opcode, uint8_t source
     size_t data_len, size_t *size);
 
 // Builds an ACK or a NAK at the front of a room of MK_ANSWER_SIZE; reply is MK_REPLY_ACK or the NAK's cause.
-// MK_WRITTEN and the packet's size. Or MK_ROOM, MK_SOURCE.
+// MK_WRITTEN and the packet's size. Or, in this order, MK_ROOM; MK_NOTHING for any other reply; MK_SOURCE.
 uint32_t mk_answer(uint8_t *room, size_t room_len, uint8_t source, uint32_t reply, size_t *size);
 
 // Makes a framer's control value (MK_FRAMER_CONTROL_SIZE): nothing begun. MK_NOTHING, or MK_ROOM.
@@ -315,6 +354,19 @@ uint32_t mk_framer_idle(uint8_t *control, size_t control_len);
 // the framer ignores all up to the next gap; MK_CUT; MK_NOTHING; MK_ROOM.
 uint32_t mk_framer_hear(uint8_t *control, size_t control_len, uint8_t *line, size_t line_len, uint32_t event,
     size_t head[MK_HEAD_VALUES]);
+
+// The short way of hub and reader: most events of a line go it. It takes a byte or a character gap of which the framer
+// tells nothing: the first byte of a packet, bytes inside it, bytes that a deaf framer ignores, a gap with nothing
+// begun. control is the front of a hub's or a reader's control value, line its line. Of the control value it writes the
+// count (bytes 0 to 7), and the flag behind it where a deaf framer wakes; of the line the place of the byte that came.
+//
+// true: the event was taken, and there is nothing to tell. It is proved that this is what mk_hub_hear or mk_reader_hear
+// does with rooms of full size. false: nothing was changed, and the event is for that call, before any later one.
+//
+// It is lent no rooms, so it cannot tell MK_ROOM. Whoever lends rooms of their own to the calls below tests their sizes
+// first; those of mk_hub and mk_reader are right. It is not for a framer alone, whose control value and line are
+// smaller.
+bool mk_go_on(uint8_t control[MK_GOING_SIZE], uint8_t line[MK_LINE_SIZE], uint32_t event);
 
 // Makes a hub's control value (MK_HUB_CONTROL_SIZE): just switched on. MK_NOTHING, or MK_ROOM.
 uint32_t mk_hub_on(uint8_t *control, size_t control_len);
@@ -335,9 +387,9 @@ uint32_t mk_sender_idle(uint8_t *control, size_t control_len, bool failed);
 uint32_t mk_sender_start(uint8_t *control, size_t control_len, uint8_t buffer[MK_MESSAGE_SIZE], uint8_t *room,
     size_t room_len, uint8_t code, const uint8_t *message, size_t message_len, size_t *value);
 
-// One thing heard of the host: MK_HEARD_ACK, a NAK's cause, MK_HEARD_TIME_OUT. MK_COPY and the packet's size: the
-// next one, or the same marked, at most twice. MK_DELIVERED or MK_FAILED and the number of marked copies of the
-// whole message. MK_NOTHING, or MK_ROOM.
+// One thing heard of the host: MK_HEARD_ACK, a NAK's cause, MK_HEARD_TIME_OUT. MK_COPY and the packet's size: the next
+// one, or the same marked, at most twice. MK_DELIVERED or MK_FAILED and the message's marked copies, all its packets
+// together. MK_NOTHING, or MK_ROOM.
 uint32_t mk_sender_hear(uint8_t *control, size_t control_len, const uint8_t buffer[MK_MESSAGE_SIZE], uint8_t *room,
     size_t room_len, uint32_t heard, size_t *value);
 
@@ -363,9 +415,10 @@ uint32_t mk_reader_start(uint8_t *control, size_t control_len, uint8_t message[M
 uint32_t mk_reader_time_out(uint8_t *control, size_t control_len, const uint8_t message[MK_MESSAGE_SIZE], uint8_t *copy,
     size_t copy_len, size_t *value);
 
-// One event at the reader. The answer room has MK_READER_ANSWER_SIZE, the copy room MK_PACKET_SIZE; answers keeps
-// the last answer for a resend. MK_ACTED, MK_REPEATED, MK_NOTHING, a refusal from MK_LENGTH to MK_SETTING or MK_ROOM;
-// the values are MK_READER_VALUE_...
+// One event at the reader. The answer room has MK_READER_ANSWER_SIZE, the copy room MK_PACKET_SIZE; answers keeps the
+// last answer for a resend. Of a command MK_ACTED, MK_REPEATED or a refusal from MK_LENGTH to MK_SETTING; of an ACK or
+// NAK that the sender heeds MK_COPY, MK_DELIVERED or MK_FAILED; else MK_NOTHING or MK_ROOM. No packet is both, so one
+// number tells everything; the values are MK_READER_VALUE_...
 uint32_t mk_reader_hear(uint8_t *control, size_t control_len, uint8_t line[MK_LINE_SIZE],
     uint8_t answers[MK_READER_ANSWER_SIZE], const uint8_t message[MK_MESSAGE_SIZE], uint8_t *answer, size_t answer_len,
     uint8_t *copy, size_t copy_len, uint32_t event, size_t values[MK_READER_VALUES]);
@@ -378,12 +431,15 @@ uint32_t mk_reader_switches(const uint8_t *control, size_t control_len, size_t v
 
 // ---- machines with their buffers
 //
-// Declare one, initialise it, give it events. One that was never initialised is safe too, as any bytes are a
-// control value: it reads and writes only itself, but may start in mid-packet, barred, or ignoring all up to a gap,
-// and a reader with any parameters. A hub is as good as new at its first message gap. A byte goes in as uint8_t or
-// unsigned char: a negative char would be taken for a message gap.
+// Declare one, initialise it, give it events. All are bytes: their alignment is 1, and there is no padding. One that
+// was never initialised is safe too, as any bytes are a control value: it reads and writes only itself, but may start
+// in mid-packet, barred, or ignoring all up to a gap, and a reader with any parameters. A hub is as good as new at its
+// first message gap. A byte goes in as uint8_t or unsigned char: a negative char is no event, and its byte would be
+// lost.
+//
+// The functions have the names that the crate's types have in Rust: mk_hub_event is Hub::event.
 
-// The hub.
+// The hub: 8,742 bytes.
 typedef struct {
     uint8_t control[MK_HUB_CONTROL_SIZE];
     uint8_t line[MK_LINE_SIZE];
@@ -391,6 +447,7 @@ typedef struct {
     uint8_t answer[MK_HUB_ANSWER_SIZE]; // to be sent: so many bytes as told
     uint8_t message[MK_MESSAGE_SIZE];   // the last message that was whole; stays until the next one is
 } mk_hub;
+MK_ASSERT(sizeof(mk_hub) == 8742 && MK_ALIGNMENT(mk_hub) == 1, "mk_hub");
 
 typedef struct {
     uint32_t number; // MK_ADDED, MK_REPEATED, MK_MESSAGE, MK_NOTHING or a refusal
@@ -398,6 +455,7 @@ typedef struct {
     uint8_t code;    // MK_MESSAGE: its code type
     size_t count;    // MK_MESSAGE: so many bytes of hub.message
 } mk_hub_told;
+MK_ASSERT(sizeof(mk_hub_told) == 32, "mk_hub_told");
 
 static inline void mk_hub_init(mk_hub *hub)
 {
@@ -406,8 +464,10 @@ static inline void mk_hub_init(mk_hub *hub)
 
 static inline mk_hub_told mk_hub_event(mk_hub *hub, uint32_t event)
 {
+    mk_hub_told told = {MK_NOTHING, 0, 0, 0};
+    if (mk_go_on(hub->control, hub->line, event))
+        return told;
     size_t values[MK_HUB_VALUES];
-    mk_hub_told told;
     told.number = mk_hub_hear(hub->control, sizeof hub->control, hub->line, hub->gather, hub->answer,
         sizeof hub->answer, hub->message, sizeof hub->message, event, values);
     told.answer = values[MK_HUB_VALUE_ANSWER];
@@ -416,11 +476,12 @@ static inline mk_hub_told mk_hub_event(mk_hub *hub, uint32_t event)
     return told;
 }
 
-// A framer alone, for those who want the packets themselves.
+// A framer alone, for those who want the packets themselves: 266 bytes.
 typedef struct {
     uint8_t control[MK_FRAMER_CONTROL_SIZE];
     uint8_t line[MK_PACKET_SIZE]; // MK_PACKET: the packet, its data from the fifth byte on
 } mk_framer;
+MK_ASSERT(sizeof(mk_framer) == 266 && MK_ALIGNMENT(mk_framer) == 1, "mk_framer");
 
 typedef struct {
     size_t length; // of the packet without its checksum, so of the data and 4 more
@@ -428,21 +489,23 @@ typedef struct {
     uint8_t source;
     uint8_t status;
 } mk_head;
+MK_ASSERT(sizeof(mk_head) == 16, "mk_head");
 
 typedef struct {
     uint32_t number; // MK_PACKET, MK_NOTHING, or a refusal from MK_LENGTH to MK_CUT
     mk_head head;    // MK_PACKET: of the packet in framer.line
-} mk_framer_told;
+} mk_found;
+MK_ASSERT(sizeof(mk_found) == 24, "mk_found");
 
 static inline void mk_framer_init(mk_framer *framer)
 {
     mk_framer_idle(framer->control, sizeof framer->control);
 }
 
-static inline mk_framer_told mk_framer_event(mk_framer *framer, uint32_t event)
+static inline mk_found mk_framer_event(mk_framer *framer, uint32_t event)
 {
     size_t head[MK_HEAD_VALUES];
-    mk_framer_told told;
+    mk_found told;
     told.number =
         mk_framer_hear(framer->control, sizeof framer->control, framer->line, sizeof framer->line, event, head);
     told.head.length = head[MK_HEAD_LENGTH];
@@ -452,18 +515,20 @@ static inline mk_framer_told mk_framer_event(mk_framer *framer, uint32_t event)
     return told;
 }
 
-// A sender alone. Whoever owns the line hears ACK and NAK (mk_sender_heed) and keeps the time.
+// A sender alone: 4,388 bytes. Whoever owns the line hears ACK and NAK (mk_sender_heed) and keeps the time.
 typedef struct {
     uint8_t control[MK_SENDER_CONTROL_SIZE];
     uint8_t message[MK_MESSAGE_SIZE];
     uint8_t copy[MK_PACKET_SIZE]; // MK_COPY: the packet to be sent
 } mk_sender;
+MK_ASSERT(sizeof(mk_sender) == 4388 && MK_ALIGNMENT(mk_sender) == 1, "mk_sender");
 
-// What a sender brought, alone or in a reader.
+// What a call brought a sender, alone or in a reader.
 typedef struct {
     uint32_t number; // MK_COPY, MK_DELIVERED, MK_FAILED, MK_NOTHING or MK_START
-    size_t value;    // MK_COPY: so many bytes are to be sent; MK_DELIVERED, MK_FAILED: the number of resends
-} mk_sent;
+    size_t value;    // MK_COPY: so many bytes are to be sent; MK_DELIVERED, MK_FAILED: the message's marked copies
+} mk_outcome;
+MK_ASSERT(sizeof(mk_outcome) == 16, "mk_outcome");
 
 static inline void mk_sender_init(mk_sender *sender)
 {
@@ -471,21 +536,21 @@ static inline void mk_sender_init(mk_sender *sender)
 }
 
 // Starts a message.
-static inline mk_sent mk_sender_send(mk_sender *sender, uint8_t code, const uint8_t *bytes, size_t count)
+static inline mk_outcome mk_sender_send(mk_sender *sender, uint8_t code, const uint8_t *bytes, size_t count)
 {
-    mk_sent sent;
-    sent.number = mk_sender_start(sender->control, sizeof sender->control, sender->message, sender->copy,
-        sizeof sender->copy, code, bytes, count, &sent.value);
-    return sent;
+    mk_outcome outcome;
+    outcome.number = mk_sender_start(sender->control, sizeof sender->control, sender->message, sender->copy,
+        sizeof sender->copy, code, bytes, count, &outcome.value);
+    return outcome;
 }
 
 // MK_HEARD_ACK, a NAK's cause or MK_HEARD_TIME_OUT.
-static inline mk_sent mk_sender_heard(mk_sender *sender, uint32_t heard)
+static inline mk_outcome mk_sender_heard(mk_sender *sender, uint32_t heard)
 {
-    mk_sent sent;
-    sent.number = mk_sender_hear(sender->control, sizeof sender->control, sender->message, sender->copy,
-        sizeof sender->copy, heard, &sent.value);
-    return sent;
+    mk_outcome outcome;
+    outcome.number = mk_sender_hear(sender->control, sizeof sender->control, sender->message, sender->copy,
+        sizeof sender->copy, heard, &outcome.value);
+    return outcome;
 }
 
 // Whether a message is out.
@@ -494,7 +559,7 @@ static inline bool mk_sender_out(const mk_sender *sender)
     return mk_sender_waits(sender->control, sizeof sender->control) == MK_OUT;
 }
 
-// The reader's whole end: framer, commands with the parameters, sender.
+// The reader's whole end: framer, commands with the parameters, sender. 5,000 bytes.
 typedef struct {
     uint8_t control[MK_READER_CONTROL_SIZE];
     uint8_t line[MK_LINE_SIZE];
@@ -503,6 +568,7 @@ typedef struct {
     uint8_t answer[MK_READER_ANSWER_SIZE]; // to be sent: so many bytes as told
     uint8_t copy[MK_PACKET_SIZE];          // MK_COPY: the packet to be sent
 } mk_reader;
+MK_ASSERT(sizeof(mk_reader) == 5000 && MK_ALIGNMENT(mk_reader) == 1, "mk_reader");
 
 // A sound to be made; with a count of 0 there is none.
 typedef struct {
@@ -510,13 +576,16 @@ typedef struct {
     uint8_t pitch;    // MK_PITCH_..
     uint8_t count;    // how many beeps
 } mk_beep;
+MK_ASSERT(sizeof(mk_beep) == 3, "mk_beep");
 
 typedef struct {
-    uint32_t number; // MK_ACTED, MK_REPEATED, MK_NOTHING or a refusal
+    uint32_t number; // MK_ACTED, MK_REPEATED, MK_COPY, MK_DELIVERED, MK_FAILED, MK_NOTHING or a refusal
     size_t answer;   // so many bytes of reader.answer are to be sent
     mk_beep beep;    // MK_ACTED: the sound to be made
-    mk_sent sent;    // what the sender made of an ACK or NAK
+    size_t value;    // MK_COPY: so many bytes of reader.copy are to be sent
+                     // MK_DELIVERED, MK_FAILED: the message's marked copies
 } mk_reader_told;
+MK_ASSERT(sizeof(mk_reader_told) == 32, "mk_reader_told");
 
 // What the commands have switched on.
 typedef struct {
@@ -525,6 +594,7 @@ typedef struct {
     bool aim;
     bool led;
 } mk_switches;
+MK_ASSERT(sizeof(mk_switches) == 4, "mk_switches");
 
 // The house defaults, nothing out. A message gap is due before the first message.
 static inline void mk_reader_init(mk_reader *reader)
@@ -541,36 +611,37 @@ static inline void mk_reader_restart(mk_reader *reader)
 
 static inline mk_reader_told mk_reader_event(mk_reader *reader, uint32_t event)
 {
+    mk_reader_told told = {MK_NOTHING, 0, {0, 0, 0}, 0};
+    if (mk_go_on(reader->control, reader->line, event))
+        return told;
     size_t values[MK_READER_VALUES];
-    mk_reader_told told;
     told.number = mk_reader_hear(reader->control, sizeof reader->control, reader->line, reader->answers,
         reader->message, reader->answer, sizeof reader->answer, reader->copy, sizeof reader->copy, event, values);
     told.answer = values[MK_READER_VALUE_ANSWER];
     told.beep.duration = (uint8_t)values[MK_READER_VALUE_DURATION];
     told.beep.pitch = (uint8_t)values[MK_READER_VALUE_PITCH];
     told.beep.count = (uint8_t)values[MK_READER_VALUE_COUNT];
-    told.sent.number = (uint32_t)values[MK_READER_VALUE_SENT];
-    told.sent.value = values[MK_READER_VALUE_SENT_VALUE];
+    told.value = values[MK_READER_VALUE_SENT];
     return told;
 }
 
 // Starts a message.
-static inline mk_sent mk_reader_send(mk_reader *reader, uint8_t code, const uint8_t *bytes, size_t count)
+static inline mk_outcome mk_reader_send(mk_reader *reader, uint8_t code, const uint8_t *bytes, size_t count)
 {
-    mk_sent sent;
-    sent.number = mk_reader_start(reader->control, sizeof reader->control, reader->message, reader->copy,
-        sizeof reader->copy, code, bytes, count, &sent.value);
-    return sent;
+    mk_outcome outcome;
+    outcome.number = mk_reader_start(reader->control, sizeof reader->control, reader->message, reader->copy,
+        sizeof reader->copy, code, bytes, count, &outcome.value);
+    return outcome;
 }
 
 // No answer to the last copy came within the response time-out (parameter 9Bh): it is to be sent again, marked, or
 // the message has failed.
-static inline mk_sent mk_reader_expire(mk_reader *reader)
+static inline mk_outcome mk_reader_expire(mk_reader *reader)
 {
-    mk_sent sent;
-    sent.number = mk_reader_time_out(reader->control, sizeof reader->control, reader->message, reader->copy,
-        sizeof reader->copy, &sent.value);
-    return sent;
+    mk_outcome outcome;
+    outcome.number = mk_reader_time_out(reader->control, sizeof reader->control, reader->message, reader->copy,
+        sizeof reader->copy, &outcome.value);
+    return outcome;
 }
 
 // The present value of a parameter, 0 where there is no such parameter.
@@ -596,5 +667,7 @@ static inline mk_switches mk_reader_switched(const mk_reader *reader)
 #ifdef __cplusplus
 }
 #endif
+#undef MK_ASSERT
+#undef MK_ALIGNMENT
 
 #endif

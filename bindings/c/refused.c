@@ -237,32 +237,6 @@ static void test_packet_refusals(void)
 
 // ---- control values
 
-// Where their parts stand (crates/motikhund/specs/Control.antt). A number has eight bytes, low byte first.
-enum {
-    LINE_COUNT = 0, // of framer, hub and reader: the bytes of the packet begun
-    LINE_DEAF = 8,
-    LINE_SECOND = 9, // of hub and reader: whether the second half receives
-    LINE_LAST = 10,  // and the length of the last accepted packet
-    HUB_BARRED = 18,
-    HUB_BEGUN = 19, // then code type and count
-    HUB_CODE = 20,
-    HUB_COUNT = 21,
-    READER_ANSWERED = 18,
-    READER_ACK_NAK = 32, // the present value of 9Fh
-    READER_SWITCHES = 44,
-    READER_SENDER = 48,
-    SENDER_OUT = 0,
-    SENDER_FAILED = 2,
-    SENDER_LENGTH = 3, // then three numbers more
-    NUMBER = 8
-};
-
-static void put_number(uint8_t *at, uint64_t number)
-{
-    for (size_t i = 0; i < NUMBER; i++)
-        at[i] = (uint8_t)(number >> 8 * i);
-}
-
 static void set_barred(uint8_t *control)
 {
     control[HUB_BARRED] = 1;
@@ -289,18 +263,10 @@ static void set_out(uint8_t *control)
     memset(control + SENDER_LENGTH + NUMBER, 0, 3 * NUMBER);
 }
 
-// A flag that is not 1 is not set.
-static void due_flag(uint8_t *at)
-{
-    *at = *at == 1;
-}
-
 // A number over its limit is 0.
 static void due_number(uint8_t *at, uint64_t most)
 {
-    uint64_t number = 0;
-    for (size_t i = 0; i < NUMBER; i++)
-        number |= (uint64_t)at[i] << 8 * i;
+    uint64_t number = number_at(at);
     put_number(at, number <= most ? number : 0);
 }
 
@@ -311,18 +277,14 @@ static void due_framer(uint8_t *control, uint32_t number)
     control[LINE_DEAF] = number == MK_LENGTH || number == MK_CHECKSUM;
 }
 
-static void due_line(uint8_t *control, uint32_t number)
-{
-    due_framer(control, number);
-    due_flag(control + LINE_SECOND);
-    due_number(control + LINE_LAST, MK_PACKET_SIZE - 2);
-}
-
-// 10 bars the hub, and then nothing is gathered. A message gap clears everything.
+// What was gathered is put in order where the framer tells something; 10 bars the hub, and then nothing is gathered.
+// A message gap clears everything.
 static void due_hub(uint8_t *control, uint32_t number, uint32_t event)
 {
-    due_line(control, number);
-    control[HUB_BARRED] = control[HUB_BARRED] == 1 || number == MK_BARRED;
+    due_framer(control, number);
+    due_flags(control, hub_flags);
+    if (number == MK_BARRED)
+        control[HUB_BARRED] = 1;
     if (control[HUB_BEGUN] != 1 || number == MK_BARRED)
         memset(control + HUB_BEGUN, 0, MK_HUB_CONTROL_SIZE - HUB_BEGUN);
     due_number(control + HUB_COUNT, MK_MESSAGE_SIZE);
@@ -332,12 +294,9 @@ static void due_hub(uint8_t *control, uint32_t number, uint32_t event)
 
 static void due_reader(uint8_t *control, uint32_t number)
 {
-    due_line(control, number);
+    due_framer(control, number);
+    due_flags(control, reader_flags);
     due_number(control + READER_ANSWERED, MK_READER_ANSWER_SIZE);
-    for (size_t i = 0; i < MK_SWITCH_VALUES; i++)
-        due_flag(control + READER_SWITCHES + i);
-    due_flag(control + READER_SENDER + SENDER_OUT);
-    due_flag(control + READER_SENDER + SENDER_FAILED);
 }
 
 // ---- refused events (1 to 10)
@@ -397,7 +356,8 @@ static const refusal reader_refusals[] = {
 };
 
 // All events but the last have come: their bytes stand in the half that receives. Where there are none, the count stays
-// garbage, which no packet reaches. Gives the last; its byte is due in its place.
+// garbage, which no packet reaches. Gives the last; the short way of hub and reader leaves it. Its byte is due in its
+// place.
 static uint32_t come(uint8_t *control, uint8_t *half, const char *text)
 {
     uint32_t events[EVENTS];
@@ -409,6 +369,8 @@ static uint32_t come(uint8_t *control, uint8_t *half, const char *text)
     for (size_t i = 0; i < count; i++)
         half[i] = (uint8_t)events[i];
     remember();
+    if (control != room.framer)
+        CHECK(!mk_go_on(control, room.line, events[count]) && nothing_changed());
     if (events[count] < MK_CHARACTER_GAP)
         was(half)[count] = (uint8_t)events[count];
     return events[count];
@@ -500,6 +462,44 @@ static void test_reader_bytes(void)
             reader_refuses(due, i / 4 % 2 == 1);
         }
     }
+}
+
+// ---- no events: numbers above that of a message gap, and replies above that of an ACK, do nothing
+
+static const uint32_t above[] = {MK_MESSAGE_GAP + 1, 512, 0x80000000, 0xFFFFFF00, 0xFFFFFFFF};
+
+static void does_nothing(const asking *asked, size_t way)
+{
+    fill_with(fills[way % COUNT(fills)]);
+    room_event = above[way / COUNT(fills)];
+    due_values(asked->values, 0);
+    CHECK(asked->call(asked->need) == MK_NOTHING);
+    CHECK(nothing_changed());
+}
+
+static void test_no_events(void)
+{
+    static const char *const takers[] = {"mk_answer", "mk_framer_hear", "mk_hub_hear", "mk_reader_hear"};
+    size_t tried = 0;
+    for (size_t i = 0; i < COUNT(askings); i++) {
+        for (size_t taker = 0; taker < COUNT(takers); taker++) {
+            if (strcmp(askings[i].name, takers[taker]) != 0)
+                continue;
+            name_case(takers[taker], MK_NOTHING, 0);
+            for (size_t way = 0; way < COUNT(above) * COUNT(fills); way++)
+                does_nothing(&askings[i], way);
+            tried++;
+        }
+    }
+    CHECK(tried == COUNT(takers));
+    fill_with(ANY);
+    for (size_t i = 0; i < COUNT(above); i++) {
+        CHECK(!mk_go_on(room.hub, room.line, above[i]) && !mk_go_on(room.reader, room.line, above[i]));
+        CHECK(nothing_changed());
+    }
+    due_values(1, 0);
+    CHECK(mk_answer(room.answer, MK_ANSWER_SIZE, 1, MK_REPLY_ACK + 1, room.values) == MK_NOTHING); // before MK_SOURCE
+    CHECK(nothing_changed());
 }
 
 // ---- refused starts (11): over 4,096 bytes, one still out, or both
@@ -609,14 +609,14 @@ static void test_total(void)
 static void test_refused_starts(void)
 {
     remember();
-    CHECK(is_sent(mk_sender_send(sender, 0x1B, message, 4097), MK_START, 0));
-    CHECK(is_sent(mk_reader_send(reader, 0x1B, message, 4097), MK_START, 0));
+    CHECK(brought(mk_sender_send(sender, 0x1B, message, 4097), MK_START, 0));
+    CHECK(brought(mk_reader_send(reader, 0x1B, message, 4097), MK_START, 0));
     CHECK(nothing_changed() && !mk_sender_out(sender));
-    CHECK(is_sent(mk_sender_send(sender, 0x1B, message, 1), MK_COPY, 8));
-    CHECK(is_sent(mk_reader_send(reader, 0x1B, message, 1), MK_COPY, 8));
+    CHECK(brought(mk_sender_send(sender, 0x1B, message, 1), MK_COPY, 8));
+    CHECK(brought(mk_reader_send(reader, 0x1B, message, 1), MK_COPY, 8));
     remember();
-    CHECK(is_sent(mk_sender_send(sender, 0x1C, message, 2), MK_START, 0));
-    CHECK(is_sent(mk_reader_send(reader, 0x1C, message, 2), MK_START, 0));
+    CHECK(brought(mk_sender_send(sender, 0x1C, message, 2), MK_START, 0));
+    CHECK(brought(mk_reader_send(reader, 0x1C, message, 2), MK_START, 0));
     CHECK(nothing_changed() && mk_sender_out(sender));
 }
 
@@ -628,6 +628,7 @@ static const test tests[] = {
     {"framer: every byte", test_framer_bytes},
     {"hub: every byte", test_hub_bytes},
     {"reader: every byte", test_reader_bytes},
+    {"no events", test_no_events},
     {"starts: every byte", test_start_bytes},
     {"hub refusals", test_hub_refusals},
     {"reader refusals", test_reader_refusals},

@@ -1,151 +1,11 @@
 // Tests of the archive through motikhund.h: garbage, small cases worked by hand, both ends with the story of sample 8
 // (give it examples/88.txt), the reader's commands. All that is random is seeded. What is refused is in refused.c.
-#include "ground.h"
+#include "chatter.h"
 
 // ---- garbage: random control values and buffers, then random events. Each machine runs twice, by its calls with
 // guards around every buffer, and as its type by the short functions: both are to do the same.
 
-enum { ROUNDS = 5000, ROUND_EVENTS = 50, NUMBERS = 256, MOST_RESENDS = 34 };
-
-typedef struct {
-    bool seen[NUMBERS];
-} sights;
-
-static void see(sights *told, size_t number)
-{
-    CHECK(number < NUMBERS);
-    if (number < NUMBERS)
-        told->seen[number] = true;
-}
-
-// Just the documented numbers came, and each of them did.
-static void saw(const sights *told, const uint8_t *numbers, size_t count)
-{
-    size_t seen = 0;
-    for (size_t i = 0; i < NUMBERS; i++)
-        seen += told->seen[i];
-    CHECK(seen == count);
-    for (size_t i = 0; i < count; i++)
-        CHECK(told->seen[numbers[i]]);
-}
-
-typedef struct {
-    uint8_t *one, *other;
-    size_t size;
-} twin;
-
-static void make_twins(const twin *twins, size_t count)
-{
-    for (size_t i = 0; i < count; i++)
-        memcpy(twins[i].other, twins[i].one, twins[i].size);
-}
-
-static bool are_twins(const twin *twins, size_t count)
-{
-    for (size_t i = 0; i < count; i++)
-        if (memcmp(twins[i].other, twins[i].one, twins[i].size) != 0)
-            return false;
-    return true;
-}
-
-// Random bytes alone are a machine at rest too often: big numbers read as 0. So some have mostly zeros.
-static void sparse_control(uint8_t *control, size_t size)
-{
-    for (size_t i = 0; i < size; i++)
-        control[i] = below(8) == 0 ? any_byte() : below(6) == 0;
-}
-
-static uint32_t idle_sender(uint8_t *control, size_t size)
-{
-    return mk_sender_idle(control, size, false);
-}
-
-// The ground anew, with a control value of any bytes, of few, or of a machine just made.
-static void any_start(uint8_t *control, size_t size, uint32_t (*make)(uint8_t *control, size_t size))
-{
-    fill_ground();
-    switch (below(3)) {
-    case 0:
-        sparse_control(control, size);
-        break;
-    case 1:
-        make(control, size);
-        break;
-    }
-}
-
-static const uint8_t hub_opcodes[] = {MK_OPCODE_DECODE_DATA, MK_OPCODE_DECODE_DATA, MK_OPCODE_DECODE_DATA,
-    MK_OPCODE_DECODE_DATA, MK_OPCODE_CMD_ACK, MK_OPCODE_CMD_NAK, MK_OPCODE_BEEP};
-static const uint8_t reader_opcodes[] = {MK_OPCODE_PARAM_SEND, MK_OPCODE_PARAM_SEND, MK_OPCODE_PARAM_REQUEST,
-    MK_OPCODE_PARAM_DEFAULTS, MK_OPCODE_START_SESSION, MK_OPCODE_STOP_SESSION, MK_OPCODE_BEEP, MK_OPCODE_LED_ON,
-    MK_OPCODE_LED_OFF, MK_OPCODE_SCAN_ENABLE, MK_OPCODE_SCAN_DISABLE, MK_OPCODE_AIM_ON, MK_OPCODE_AIM_OFF,
-    MK_OPCODE_CMD_ACK, MK_OPCODE_CMD_ACK, MK_OPCODE_CMD_NAK, MK_OPCODE_DECODE_DATA};
-static const uint8_t parameters[] = {0x80, 0x89, 0x8A, 0x9B, 0x9C, 0x9E, 0x9F, 0xED, 0xEE, 0xFE, 0xFF};
-
-// Packets for one side, most of them right, with noise and gaps between them.
-typedef struct {
-    const uint8_t *opcodes;
-    size_t kinds;
-    uint8_t source;
-    uint8_t packet[MK_PACKET_SIZE];
-    size_t at, size;
-} chatter;
-
-static uint8_t any_datum(void)
-{
-    switch (below(4)) {
-    case 0:
-        return any_byte();
-    case 1:
-        return pick(parameters, COUNT(parameters));
-    case 2:
-        return (uint8_t)below(0x1D);
-    default:
-        return (uint8_t)below(3);
-    }
-}
-
-static void new_packet(chatter *talk)
-{
-    static const uint8_t statuses[] = {0, 0, 0, 1, 2, 2, 8};
-    uint8_t data[MK_DATA_SIZE];
-    size_t count = below(16) == 0 ? below(MK_DATA_SIZE + 1) : below(4);
-    for (size_t i = 0; i < count; i++)
-        data[i] = any_datum();
-    uint8_t source = below(16) == 0 ? any_byte() : talk->source;
-    uint8_t status = below(16) == 0 ? any_byte() : pick(statuses, COUNT(statuses));
-    talk->size = make_packet(talk->packet, pick(talk->opcodes, talk->kinds), source, status, data, count);
-    if (below(16) == 0)
-        talk->packet[below(talk->size)] ^= (uint8_t)(1 << below(8));
-}
-
-static void resend(chatter *talk)
-{
-    talk->packet[3] |= MK_STATUS_RESEND;
-    if (talk->packet[0] + 2u == talk->size) // not where its length was spoiled
-        seal(talk->packet);
-}
-
-static uint32_t next_event(chatter *talk)
-{
-    size_t chance = below(32);
-    if (talk->at < talk->size)
-        return talk->packet[talk->at++];
-    if (chance == 0)
-        return any_byte();
-    if (chance == 1)
-        return (uint32_t)draw();
-    if (chance < 4)
-        return MK_MESSAGE_GAP;
-    if (chance < 10)
-        return MK_CHARACTER_GAP;
-    if (chance < 20 && talk->size > 0)
-        resend(talk);
-    else
-        new_packet(talk);
-    talk->at = 1;
-    return talk->packet[0];
-}
+enum { ROUNDS = 5000, ROUND_EVENTS = 50, MOST_RESENDS = 34 };
 
 static bool is_head(const size_t *head, size_t length, uint8_t opcode, uint8_t source, uint8_t status)
 {
@@ -183,13 +43,14 @@ static void garbage_check(sights *checked)
 static void garbage_answer(sights *answered, uint8_t source)
 {
     uint8_t made[MK_ANSWER_SIZE];
-    uint32_t reply = below(2) == 0 ? any_byte() : (uint32_t)(MK_REPLY_ACK + below(2) * below(1 << 30));
+    uint32_t reply = below(2) == 0 ? any_byte() : (uint32_t)(MK_REPLY_ACK + below(2) * below(2) * below(1 << 30));
     uint8_t cause = (uint8_t)reply;
     size_t length = below(2) == 0 ? below(MK_ANSWER_SIZE) : MK_ANSWER_SIZE;
     uint32_t number = mk_answer(room.answer, length, source, reply, room.values);
     size_t size = room.values[0];
     see(answered, number);
     CHECK((number == MK_ROOM) == (length < MK_ANSWER_SIZE) && (number == MK_WRITTEN) == (size > 0));
+    CHECK((number == MK_NOTHING) == (length >= MK_ANSWER_SIZE && reply > MK_REPLY_ACK));
     CHECK(stays(room.answer, size, MK_ANSWER_SIZE));
     if (number != MK_WRITTEN)
         return;
@@ -223,7 +84,7 @@ static void test_garbage_packets(void)
     }
     saw(&checked, (const uint8_t[]){MK_LENGTH, MK_CHECKSUM, MK_CUT, MK_PACKET}, 4);
     saw(&built, (const uint8_t[]){MK_SOURCE, MK_STATUS, MK_DATA, MK_ROOM, MK_WRITTEN}, 5);
-    saw(&answered, (const uint8_t[]){MK_SOURCE, MK_ROOM, MK_WRITTEN}, 3);
+    saw(&answered, (const uint8_t[]){MK_NOTHING, MK_SOURCE, MK_ROOM, MK_WRITTEN}, 4);
 }
 
 static void garbage_framer(sights *told, chatter *talk)
@@ -232,7 +93,7 @@ static void garbage_framer(sights *told, chatter *talk)
     remember();
     uint32_t number =
         mk_framer_hear(room.framer, MK_FRAMER_CONTROL_SIZE, room.packet, MK_PACKET_SIZE, event, room.values);
-    mk_framer_told other = mk_framer_event(framer, event);
+    mk_found other = mk_framer_event(framer, event);
     see(told, number);
     size_t length = room.values[MK_HEAD_LENGTH];
     CHECK(other.number == number);
@@ -245,8 +106,8 @@ static void test_garbage_framer(void)
 {
     sights told = {{0}};
     twin twins[] = {
-        {room.framer, framer->control, sizeof framer->control},
-        {room.packet, framer->line, sizeof framer->line},
+        {room.framer, framer->control, sizeof framer->control, NULL},
+        {room.packet, framer->line, sizeof framer->line, NULL},
     };
     for (int i = 0; i < ROUNDS; i++) {
         chatter talk = {reader_opcodes, COUNT(reader_opcodes), MK_SOURCE_HOST, {0}, 0, 0};
@@ -281,11 +142,11 @@ static void test_garbage_hub(void)
 {
     sights told = {{0}};
     twin twins[] = {
-        {room.hub, hub->control, sizeof hub->control},
-        {room.line, hub->line, sizeof hub->line},
-        {room.gather, hub->gather, sizeof hub->gather},
-        {room.hub_answer, hub->answer, sizeof hub->answer},
-        {room.message, hub->message, sizeof hub->message},
+        {room.hub, hub->control, sizeof hub->control, hub_flags},
+        {room.line, hub->line, sizeof hub->line, NULL},
+        {room.gather, hub->gather, sizeof hub->gather, NULL},
+        {room.hub_answer, hub->answer, sizeof hub->answer, NULL},
+        {room.message, hub->message, sizeof hub->message, NULL},
     };
     for (int i = 0; i < ROUNDS; i++) {
         chatter talk = {hub_opcodes, COUNT(hub_opcodes), MK_SOURCE_READER, {0}, 0, 0};
@@ -301,11 +162,11 @@ static void test_garbage_hub(void)
 }
 
 // What a sender brought: number and room.values[0], of one that was lent the rooms; and the same of its twin.
-static void garbage_sent(sights *told, uint32_t number, mk_sent other, size_t started)
+static void garbage_sent(sights *told, uint32_t number, mk_outcome other, size_t started)
 {
     size_t value = room.values[0];
     see(told, number);
-    CHECK(is_sent(other, number, value));
+    CHECK(brought(other, number, value));
     CHECK(stays(room.packet, number == MK_COPY ? value : 0, MK_PACKET_SIZE));
     CHECK(stays(room.message, number == MK_COPY ? started : 0, MK_MESSAGE_SIZE));
     CHECK(number != MK_COPY || value >= 7);
@@ -352,9 +213,9 @@ static void test_garbage_sender(void)
 {
     sights told = {{0}};
     twin twins[] = {
-        {room.sender, sender->control, sizeof sender->control},
-        {room.message, sender->message, sizeof sender->message},
-        {room.packet, sender->copy, sizeof sender->copy},
+        {room.sender, sender->control, sizeof sender->control, NULL},
+        {room.message, sender->message, sizeof sender->message, NULL},
+        {room.packet, sender->copy, sizeof sender->copy, NULL},
     };
     for (int i = 0; i < ROUNDS; i++) {
         any_start(room.sender, MK_SENDER_CONTROL_SIZE, idle_sender);
@@ -367,7 +228,7 @@ static void test_garbage_sender(void)
     saw(&told, (const uint8_t[]){MK_NOTHING, MK_START, MK_COPY, MK_DELIVERED, MK_FAILED, MK_OUT}, 6);
 }
 
-static void garbage_reader_event(sights *told, sights *sent, uint32_t event)
+static void garbage_reader_event(sights *told, uint32_t event)
 {
     remember();
     uint32_t number = mk_reader_hear(room.reader, MK_READER_CONTROL_SIZE, room.line, room.answers, room.message,
@@ -375,15 +236,16 @@ static void garbage_reader_event(sights *told, sights *sent, uint32_t event)
     mk_reader_told other = mk_reader_event(reader, event);
     size_t answer = room.values[MK_READER_VALUE_ANSWER], duration = room.values[MK_READER_VALUE_DURATION],
            pitch = room.values[MK_READER_VALUE_PITCH], count = room.values[MK_READER_VALUE_COUNT];
-    see(told, number);
     CHECK(other.number == number && other.answer == answer);
     CHECK(other.beep.duration == duration && other.beep.pitch == pitch && other.beep.count == count);
     CHECK(duration <= MK_DURATION_MIX_4 && pitch <= MK_PITCH_HIGH_HIGH_LOW_LOW && count <= 5);
     CHECK(number == MK_ACTED || count == 0);
     CHECK(stays(room.reader_answer, answer, MK_READER_ANSWER_SIZE));
-    uint32_t brought = (uint32_t)room.values[MK_READER_VALUE_SENT];
-    room.values[0] = room.values[MK_READER_VALUE_SENT_VALUE];
-    garbage_sent(sent, brought, other.sent, 0);
+    bool of_sender = number == MK_COPY || number == MK_DELIVERED || number == MK_FAILED;
+    CHECK(of_sender ? answer == 0 : room.values[MK_READER_VALUE_SENT] == 0);
+    room.values[0] = room.values[MK_READER_VALUE_SENT];
+    mk_outcome sent = {other.number, other.value};
+    garbage_sent(told, number, sent, 0);
 }
 
 static void garbage_reader(sights *told, sights *sent, chatter *talk)
@@ -403,7 +265,7 @@ static void garbage_reader(sights *told, sights *sent, chatter *talk)
         CHECK(mk_reader_power_up(room.reader, MK_READER_CONTROL_SIZE) == MK_NOTHING);
         mk_reader_restart(reader);
     } else {
-        garbage_reader_event(told, sent, next_event(talk));
+        garbage_reader_event(told, next_event(talk));
     }
     CHECK(mk_reader_value(room.reader, MK_READER_CONTROL_SIZE, number, room.values) == MK_NOTHING);
     CHECK(mk_reader_parameter(reader, number) == room.values[0]);
@@ -414,12 +276,12 @@ static void test_garbage_reader(void)
 {
     sights told = {{0}}, sent = {{0}};
     twin twins[] = {
-        {room.reader, reader->control, sizeof reader->control},
-        {room.line, reader->line, sizeof reader->line},
-        {room.answers, reader->answers, sizeof reader->answers},
-        {room.message, reader->message, sizeof reader->message},
-        {room.reader_answer, reader->answer, sizeof reader->answer},
-        {room.packet, reader->copy, sizeof reader->copy},
+        {room.reader, reader->control, sizeof reader->control, reader_flags},
+        {room.line, reader->line, sizeof reader->line, NULL},
+        {room.answers, reader->answers, sizeof reader->answers, NULL},
+        {room.message, reader->message, sizeof reader->message, NULL},
+        {room.reader_answer, reader->answer, sizeof reader->answer, NULL},
+        {room.packet, reader->copy, sizeof reader->copy, NULL},
     };
     for (int i = 0; i < ROUNDS; i++) {
         chatter talk = {reader_opcodes, COUNT(reader_opcodes), MK_SOURCE_HOST, {0}, 0, 0};
@@ -431,8 +293,8 @@ static void test_garbage_reader(void)
         }
     }
     saw(&told, (const uint8_t[]){MK_NOTHING, MK_LENGTH, MK_CHECKSUM, MK_CUT, MK_SOURCE, MK_STATUS, MK_OPCODE, MK_DATA,
-        MK_BEEP, MK_SETTING, MK_REPEATED, MK_ACTED}, 12);
-    saw(&sent, (const uint8_t[]){MK_NOTHING, MK_START, MK_COPY, MK_DELIVERED, MK_FAILED}, 5);
+        MK_BEEP, MK_SETTING, MK_REPEATED, MK_ACTED, MK_COPY, MK_DELIVERED, MK_FAILED}, 15);
+    saw(&sent, (const uint8_t[]){MK_NOTHING, MK_START, MK_COPY, MK_FAILED}, 4);
 }
 
 // Each init makes the control value that its call makes, and touches nothing else.
@@ -513,7 +375,7 @@ static void test_case_frames(void)
         const packet_case *due = &packet_cases[i];
         uint8_t packet[EVENTS];
         size_t size = read_bytes(due->packet, packet);
-        mk_framer_told told = {MK_NOTHING, {0, 0, 0, 0}};
+        mk_found told = {MK_NOTHING, {0, 0, 0, 0}};
         for (size_t j = 0; j < size; j++) {
             CHECK(told.number == MK_NOTHING);
             told = mk_framer_event(framer, packet[j]);
@@ -558,15 +420,15 @@ static void test_case_pieces(void)
     const char *packets[] = {EMPTY_PIECE, PIECE};
     for (size_t count = 0; count < 2; count++) {
         const uint8_t *eight = (const uint8_t *)"8";
-        mk_sent sent = mk_sender_send(sender, 0x1B, eight, count);
+        mk_outcome sent = mk_sender_send(sender, 0x1B, eight, count);
         CHECK(sent.number == MK_COPY && reads(sender->copy, sent.value, packets[count]));
-        CHECK(is_sent(mk_sender_heard(sender, MK_HEARD_ACK), MK_DELIVERED, 0));
+        CHECK(brought(mk_sender_heard(sender, MK_HEARD_ACK), MK_DELIVERED, 0));
         sent = mk_reader_send(reader, 0x1B, eight, count);
         CHECK(sent.number == MK_COPY && reads(reader->copy, sent.value, packets[count]));
         mk_hub_told told = hub_gets(reader->copy, sent.value);
         CHECK(hub_said(told, MK_MESSAGE, HUB_ACK) && told.code == 0x1B && told.count == count);
         CHECK(memcmp(hub->message, eight, count) == 0 && stays(hub->message, count, sizeof hub->message));
-        CHECK(is_sent(reader_gets(hub->answer, told.answer).sent, MK_DELIVERED, 0));
+        CHECK(brought(of_sender(reader_gets(hub->answer, told.answer)), MK_DELIVERED, 0));
     }
 }
 
@@ -585,16 +447,16 @@ static void test_case_cuts(void)
     static const size_t cuts[][3] = {{250, 1, 250}, {251, 2, 1}, {500, 2, 250}, {4096, 17, 96}};
     for (size_t i = 0; i < COUNT(cuts); i++) {
         size_t pieces = 0, last = 0;
-        mk_sent sent = mk_sender_send(sender, 0x1B, message, cuts[i][0]);
+        mk_outcome sent = mk_sender_send(sender, 0x1B, message, cuts[i][0]);
         while (sent.number == MK_COPY && pieces < 20) {
             last = sender->copy[0] - 5u;
             CHECK(memcmp(sender->copy + 5, message + 250 * pieces, last) == 0);
             pieces++;
             sent = mk_sender_heard(sender, MK_HEARD_ACK);
         }
-        CHECK(is_sent(sent, MK_DELIVERED, 0) && pieces == cuts[i][1] && last == cuts[i][2]);
+        CHECK(brought(sent, MK_DELIVERED, 0) && pieces == cuts[i][1] && last == cuts[i][2]);
     }
-    CHECK(is_sent(mk_sender_send(sender, 0x1B, message, 4097), MK_START, 0));
+    CHECK(brought(mk_sender_send(sender, 0x1B, message, 4097), MK_START, 0));
 }
 
 // ---- both ends
@@ -623,9 +485,9 @@ static void read_story(const char *path)
         stop("the story is another one");
 }
 
-static bool is_story(mk_sent sent, size_t packet)
+static bool is_story(mk_outcome sent, size_t packet)
 {
-    return is_sent(sent, MK_COPY, story_sizes[packet]) && memcmp(reader->copy, story[packet], sent.value) == 0;
+    return brought(sent, MK_COPY, story_sizes[packet]) && memcmp(reader->copy, story[packet], sent.value) == 0;
 }
 
 static void test_story(void)
@@ -636,7 +498,7 @@ static void test_story(void)
     CHECK(is_story(mk_reader_send(reader, story[0][4], form, sizeof form), 0));
     mk_hub_told told = hub_gets(reader->copy, story_sizes[0]);
     CHECK(hub_said(told, MK_ADDED, HUB_ACK) && stays(hub->message, 0, sizeof hub->message));
-    CHECK(is_story(reader_gets(hub->answer, told.answer).sent, 1));
+    CHECK(is_story(of_sender(reader_gets(hub->answer, told.answer)), 1));
     told = hub_gets(reader->copy, story_sizes[1]);
     CHECK(hub_said(told, MK_MESSAGE, HUB_ACK) && told.code == story[0][4] && told.count == sizeof form);
     CHECK(memcmp(hub->message, form, sizeof form) == 0 && stays(hub->message, told.count, sizeof hub->message));
@@ -645,24 +507,24 @@ static void test_story(void)
     CHECK(is_story(mk_reader_expire(reader), 2)); // the ACK is lost
     told = hub_gets(reader->copy, story_sizes[2]);
     CHECK(hub_said(told, MK_REPEATED, HUB_ACK) && told.count == 0 && stays(hub->message, 0, sizeof hub->message));
-    CHECK(is_sent(reader_gets(hub->answer, told.answer).sent, MK_DELIVERED, 1));
-    CHECK(is_sent(mk_reader_expire(reader), MK_NOTHING, 0));
+    CHECK(brought(of_sender(reader_gets(hub->answer, told.answer)), MK_DELIVERED, 1));
+    CHECK(brought(mk_reader_expire(reader), MK_NOTHING, 0));
 }
 
 // A message over a line that loses nothing, handed out once and whole. How many pieces it took.
 static size_t deliver(uint8_t code, size_t count)
 {
     size_t pieces = 0, messages = 0;
-    mk_sent sent = mk_reader_send(reader, code, message, count);
+    mk_outcome sent = mk_reader_send(reader, code, message, count);
     while (sent.number == MK_COPY && pieces < 20) {
         mk_hub_told told = hub_gets(reader->copy, sent.value);
         pieces++;
         messages += told.number == MK_MESSAGE;
         CHECK(hub_said(told, messages > 0 ? MK_MESSAGE : MK_ADDED, HUB_ACK));
         CHECK(messages == 0 || (told.code == code && told.count == count));
-        sent = reader_gets(hub->answer, told.answer).sent;
+        sent = of_sender(reader_gets(hub->answer, told.answer));
     }
-    CHECK(is_sent(sent, MK_DELIVERED, 0) && messages == 1 && memcmp(hub->message, message, count) == 0);
+    CHECK(brought(sent, MK_DELIVERED, 0) && messages == 1 && memcmp(hub->message, message, count) == 0);
     return pieces;
 }
 
@@ -681,27 +543,27 @@ static void test_equal_cards(void)
 static void test_longest_message(void)
 {
     CHECK(deliver(0x1B, 4096) == 17);
-    CHECK(is_sent(mk_reader_send(reader, 0x1B, message, 4097), MK_START, 0));
+    CHECK(brought(mk_reader_send(reader, 0x1B, message, 4097), MK_START, 0));
     CHECK(deliver(0x1C, 250) == 1);
 }
 
 // At most two resends, each marked; then failed. Another NAK cause fails at once.
 static void test_failures(void)
 {
-    CHECK(is_sent(mk_reader_expire(reader), MK_NOTHING, 0));
+    CHECK(brought(mk_reader_expire(reader), MK_NOTHING, 0));
     mk_reader_send(reader, 0x1B, (const uint8_t *)"8", 1);
-    CHECK(is_sent(mk_reader_expire(reader), MK_COPY, 8) && reads(reader->copy, 8, MARKED_PIECE));
-    CHECK(is_sent(reader_takes(HUB_NAK_1).sent, MK_COPY, 8) && reads(reader->copy, 8, MARKED_PIECE));
-    CHECK(is_sent(mk_reader_expire(reader), MK_FAILED, 2));
+    CHECK(brought(mk_reader_expire(reader), MK_COPY, 8) && reads(reader->copy, 8, MARKED_PIECE));
+    CHECK(brought(of_sender(reader_takes(HUB_NAK_1)), MK_COPY, 8) && reads(reader->copy, 8, MARKED_PIECE));
+    CHECK(brought(mk_reader_expire(reader), MK_FAILED, 2));
     mk_reader_send(reader, 0x1B, (const uint8_t *)"8", 1);
-    CHECK(is_sent(reader_takes(HUB_NAK_6).sent, MK_FAILED, 0));
+    CHECK(brought(of_sender(reader_takes(HUB_NAK_6)), MK_FAILED, 0));
 
     mk_sender_send(sender, 0x1B, (const uint8_t *)"8", 1);
     CHECK(mk_sender_out(sender));
-    CHECK(is_sent(mk_sender_heard(sender, MK_CAUSE_RESEND), MK_COPY, 8) && reads(sender->copy, 8, MARKED_PIECE));
-    CHECK(is_sent(mk_sender_heard(sender, MK_HEARD_TIME_OUT), MK_COPY, 8));
-    CHECK(is_sent(mk_sender_heard(sender, MK_HEARD_NOTHING), MK_NOTHING, 0));
-    CHECK(is_sent(mk_sender_heard(sender, MK_CAUSE_CONTEXT), MK_FAILED, 2) && !mk_sender_out(sender));
+    CHECK(brought(mk_sender_heard(sender, MK_CAUSE_RESEND), MK_COPY, 8) && reads(sender->copy, 8, MARKED_PIECE));
+    CHECK(brought(mk_sender_heard(sender, MK_HEARD_TIME_OUT), MK_COPY, 8));
+    CHECK(brought(mk_sender_heard(sender, MK_HEARD_NOTHING), MK_NOTHING, 0));
+    CHECK(brought(mk_sender_heard(sender, MK_CAUSE_CONTEXT), MK_FAILED, 2) && !mk_sender_out(sender));
 }
 
 // ---- the reader's commands
@@ -795,7 +657,7 @@ static void test_power_up(void)
     mk_reader_restart(reader);
     CHECK(mk_reader_parameter(reader, MK_PARAMETER_BAUD) == MK_BAUD_4800);
     CHECK(mk_reader_event(reader, MK_CHARACTER_GAP).number == MK_NOTHING); // no packet begun
-    CHECK(is_sent(mk_reader_expire(reader), MK_NOTHING, 0));               // no message out
+    CHECK(brought(mk_reader_expire(reader), MK_NOTHING, 0));               // no message out
     CHECK(command(MK_OPCODE_PARAM_DEFAULTS, 0, message, 0).number == MK_ACTED);
     mk_reader_restart(reader);
     CHECK(mk_reader_parameter(reader, MK_PARAMETER_BAUD) == MK_BAUD_9600);

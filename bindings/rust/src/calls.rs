@@ -7,7 +7,7 @@
 //! Each gives the library's number, and the values that were told with it.
 
 use crate::constants::{
-    HEAD_VALUES, HUB_VALUES, LINE_SIZE, MESSAGE_SIZE, READER_ANSWER_SIZE, READER_VALUES, SWITCH_VALUES,
+    GOING_SIZE, HEAD_VALUES, HUB_VALUES, LINE_SIZE, MESSAGE_SIZE, READER_ANSWER_SIZE, READER_VALUES, SWITCH_VALUES,
 };
 use crate::raw;
 
@@ -44,6 +44,14 @@ pub(crate) fn framer_hear(control: &mut [u8], line: &mut [u8], event: u32) -> (u
     // SAFETY: the rule above.
     let number = unsafe { raw::mk_framer_hear(state, control.len(), to, line.len(), event, &mut head) };
     (number, head)
+}
+
+/// The short way of hub and reader. Too few control bytes are left to the call, which refuses them.
+#[inline]
+pub(crate) fn go_on(control: &mut [u8], line: &mut [u8; LINE_SIZE], event: u32) -> bool {
+    let Some(front) = control.first_chunk_mut::<GOING_SIZE>() else { return false };
+    // SAFETY: the rule above.
+    unsafe { raw::mk_go_on(front, line, event) }
 }
 
 pub(crate) fn hub_on(control: &mut [u8]) -> u32 {

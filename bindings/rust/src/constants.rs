@@ -11,6 +11,8 @@ pub const HUB_CONTROL_SIZE: usize = 29;
 pub const SENDER_CONTROL_SIZE: usize = 35;
 /// A reader's control value.
 pub const READER_CONTROL_SIZE: usize = 83;
+/// The front of a hub's or a reader's control value, for [`mk_go_on`](crate::raw::mk_go_on).
+pub const GOING_SIZE: usize = 10;
 /// The longest packet with its checksum: building, a framer's line, a copy.
 pub const PACKET_SIZE: usize = 257;
 /// The line of hub and reader, two packets: one half receives, the last accepted packet stays in the other.
@@ -30,9 +32,9 @@ pub const DATA_SIZE: usize = 251;
 
 /// Event: a silence that ends a packet; 0 to 255 are the byte that came.
 pub const CHARACTER_GAP: u32 = 256;
-/// Event: a longer silence; any number above means it too.
+/// Event: a longer silence; any number above is no event, does nothing and tells [`NOTHING`].
 pub const MESSAGE_GAP: u32 = 257;
-/// Reply: an ACK; 0 to 255 are a NAK with that cause.
+/// Reply: an ACK; 0 to 255 are a NAK with that cause; any number above writes nothing.
 pub const REPLY_ACK: u32 = 256;
 /// Heard: an ACK came; 0 to 255 are a NAK with that cause.
 pub const HEARD_ACK: u32 = 256;
@@ -257,12 +259,11 @@ pub const READER_VALUE_DURATION: usize = 1;
 pub const READER_VALUE_PITCH: usize = 2;
 /// Reader, of a command: how many beeps; 0: none.
 pub const READER_VALUE_COUNT: usize = 3;
-/// Reader: the number that `mk_sender_hear` would tell of an ACK or NAK that came.
+/// Reader, of a copy: so many bytes of the copy room are to be sent; of a message delivered or failed: its marked
+/// copies.
 pub const READER_VALUE_SENT: usize = 4;
-/// Reader: and its value.
-pub const READER_VALUE_SENT_VALUE: usize = 5;
 /// The values of a reader.
-pub const READER_VALUES: usize = 6;
+pub const READER_VALUES: usize = 5;
 
 /// Switches: scanning is enabled.
 pub const SWITCH_SCANNING: usize = 0;

@@ -1,6 +1,8 @@
 //! The framer with its buffers.
 
-use crate::buffer::{control, Buffer};
+use core::mem::{align_of, size_of};
+
+use crate::buffer::Buffer;
 use crate::constants::{FRAMER_CONTROL_SIZE, PACKET_SIZE};
 use crate::lent::framer;
 use crate::packet::Head;
@@ -23,21 +25,23 @@ pub enum Found<'a> {
     Refused(Refusal),
 }
 
-/// Bytes and gaps of a line into packets, one event at a time.
+/// Bytes and gaps of a line into packets, one event at a time. It has 266 bytes and an alignment of 1.
 #[derive(Clone, Debug, PartialEq, Eq)]
 pub struct Framer {
     control: [u8; FRAMER_CONTROL_SIZE],
     line: Buffer<PACKET_SIZE>,
 }
 
+const _: () = assert!(size_of::<Framer>() == 266 && align_of::<Framer>() == 1);
+
 impl Framer {
     /// A framer with nothing begun.
-    pub fn new() -> Self {
-        Framer { control: control(framer::idle), line: Buffer::new() }
+    pub const fn new() -> Self {
+        Framer { control: [0; FRAMER_CONTROL_SIZE], line: Buffer::new() }
     }
 
     /// One event.
-    pub fn hear(&mut self, event: Event) -> Found<'_> {
+    pub fn event(&mut self, event: Event) -> Found<'_> {
         framer::hear(&mut self.control, &mut self.line.0, event)
     }
 }

@@ -15,6 +15,7 @@ pub enum Event {
 
 impl Event {
     /// The library's number: 0 to 255 that byte, 256 a character gap, 257 a message gap.
+    #[inline]
     pub fn number(self) -> u32 {
         match self {
             Event::Byte(byte) => byte.into(),

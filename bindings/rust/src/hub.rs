@@ -1,6 +1,8 @@
 //! The hub with its buffers.
 
-use crate::buffer::{control, Buffer};
+use core::mem::{align_of, size_of};
+
+use crate::buffer::Buffer;
 use crate::constants::{HUB_ANSWER_SIZE, HUB_CONTROL_SIZE, LINE_SIZE, MESSAGE_SIZE};
 use crate::lent::hub;
 use crate::{Event, Refusal};
@@ -52,7 +54,7 @@ impl<'a> HubTold<'a> {
     }
 }
 
-/// Decode data of a reader joined to messages, one event at a time.
+/// Decode data of a reader joined to messages, one event at a time. It has 8,742 bytes and an alignment of 1.
 #[derive(Clone, Debug, PartialEq, Eq)]
 pub struct Hub {
     control: [u8; HUB_CONTROL_SIZE],
@@ -62,11 +64,13 @@ pub struct Hub {
     message: Buffer<MESSAGE_SIZE>,
 }
 
+const _: () = assert!(size_of::<Hub>() == 8_742 && align_of::<Hub>() == 1);
+
 impl Hub {
     /// A hub just switched on.
-    pub fn new() -> Self {
+    pub const fn new() -> Self {
         Hub {
-            control: control(hub::on),
+            control: [0; HUB_CONTROL_SIZE],
             line: Buffer::new(),
             gather: Buffer::new(),
             answer: [0; HUB_ANSWER_SIZE],
@@ -75,7 +79,8 @@ impl Hub {
     }
 
     /// One event.
-    pub fn hear(&mut self, event: Event) -> HubTold<'_> {
+    #[inline]
+    pub fn event(&mut self, event: Event) -> HubTold<'_> {
         let Hub { control, line, gather, answer, message } = self;
         hub::hear(control, &mut line.0, &mut gather.0, answer, &mut message.0, event)
     }

@@ -2,9 +2,10 @@
 //! The core is proved where it is written (`crates/`); these are safe types over the static library made of it.
 //! Nothing is allocated, nothing panics, and no call trusts its caller.
 //!
-//! [`Framer`], [`Hub`], [`Sender`] and [`Reader`] own their buffers: give them events, and send the answers and
-//! copies that they hand out. [`lent`] has the same machines over buffers that the caller keeps, [`packet`] the
-//! packet alone, [`constants`] every number by its name.
+//! [`Framer`], [`Hub`], [`Sender`] and [`Reader`] own their buffers: give them events, and send the answers and copies
+//! that they hand out. [`lent`] has the same machines over buffers that the caller keeps, [`packet`] the packet alone,
+//! [`constants`] every number by its name, [`raw`] the archive's calls. Names are those of C: `Hub::event` is
+//! `mk_hub_event`, `lent::hub::hear` is `mk_hub_hear`.
 //!
 //! ```
 //! use motikhund::{Event, Hub, HubTold};
@@ -12,7 +13,7 @@
 //! let mut hub = Hub::new();
 //! let (mut sent, mut filed) = (Vec::new(), Vec::new());
 //! for byte in [0x06, 0xF3, 0x00, 0x00, 0x1B, 0x38, 0xFE, 0xB4] {
-//!     let told = hub.hear(Event::Byte(byte));
+//!     let told = hub.event(Event::Byte(byte));
 //!     // The answer goes out first: filing may be slow, and the reader waits for no longer than its time-out.
 //!     sent.extend_from_slice(told.answer());
 //!     if let HubTold::Message { code, message, .. } = told {
@@ -22,6 +23,44 @@
 //! assert_eq!(sent, [0x04, 0xD0, 0x04, 0x00, 0xFF, 0x28]);
 //! assert_eq!(filed, [(0x1B, b"8".to_vec())]);
 //! ```
+//!
+//! A reader's sender speaks at a start, at a time-out and at an event; a copy goes on the line each time:
+//!
+//! ```
+//! use motikhund::{Event, Outcome, Reader, ReaderTold};
+//!
+//! let mut reader = Reader::new();
+//! let Outcome::Copy(copy) = reader.send(0x1B, b"8") else { panic!("nothing was out") };
+//! let mut sent = copy.to_vec();
+//! for byte in [0x05, 0xD1, 0x04, 0x00, 0x01, 0xFF, 0x25] { // the host's NAK 1: send it again
+//!     let told = reader.event(Event::Byte(byte));
+//!     sent.extend_from_slice(told.outgoing());
+//!     match told {
+//!         ReaderTold::Copy(_) => {} // start the response time-out behind it
+//!         ReaderTold::Delivered { .. } | ReaderTold::Failed { .. } => {} // the message has ended
+//!         ReaderTold::Acted { .. } => {} // sound the beep, read switches and parameters
+//!         ReaderTold::Nothing | ReaderTold::Repeated { .. } | ReaderTold::Refused { .. } => {}
+//!     }
+//! }
+//! let copies = [[0x06, 0xF3, 0, 0, 0x1B, 0x38, 0xFE, 0xB4], [0x06, 0xF3, 0, 1, 0x1B, 0x38, 0xFE, 0xB3]];
+//! assert_eq!(sent, copies.concat());
+//! ```
+//!
+//! # Linking
+//!
+//! The archive is for x86-64 Linux. The build script takes it from the directory that `MOTIKHUND_LIB` names, else from
+//! `target/staticlib` of the repository that this crate stands in. Its calls stand in sections of their own, and
+//! `rustc` drops what is not used: a program with a hub alone has no code of the reader.
+//!
+//! # Threads and interrupts
+//!
+//! Each machine is a value of bytes, 266 to 8,742 of them with an alignment of 1, and may be a `static`: `new` is a
+//! `const fn`. They share nothing. That one machine is used from one context at a time is what `&mut` says; who shares
+//! one with an interrupt puts it behind a lock that masks the interrupt, or lets the interrupt queue what came and the
+//! main loop give the events, in order. Most events of a line are a call of some thirty instructions without a loop
+//! ([`raw::mk_go_on`]); the last byte of a packet takes a hub some 2,500 at most, a reader some 10,000. With `raw` the
+//! short way alone in the interrupt and the rest in the main loop is wrong: an event that it left must be taken before
+//! any later one. It is right only where no event is queued and the main loop is in no call of that machine.
 //!
 //! # Timing and duties
 //!
@@ -37,17 +76,20 @@
 //!   the message gap longer.
 //! - An answer comes before its copy's time-out or not at all. A late ACK would count for the next packet, and the loss
 //!   of that one go unseen. So a hub that is late sends nothing, and a reader drops all that it hears while it sends.
-//! - At [`HubTold::Message`] the message is whole, and its ACK is not yet sent. Send it, then do slow work. Where filing
-//!   surely ends before the time-out, file first: then a power cut loses nothing that was called delivered.
+//! - At [`HubTold::Message`] the message is whole, and its ACK is not yet sent. Send it, then do slow work. Where
+//!   filing surely ends before the time-out, file first: then a power cut loses nothing that was called delivered.
 //! - Both ends keep silent for a character gap after all that they send. A reader keeps silent for a message gap before
 //!   its first message after power-up, and before one that follows a failed one or begins with a packet equal to the
 //!   one before it: were the first copy of such a packet lost, the hub would take its resend for one of the packet
 //!   before. Two equal pieces in a row inside one message are open to the same mistake.
-//! - [`Outcome::Delivered`]: the hub has the message. [`Outcome::Failed`]: it may have it all the same, and only its
-//!   answers were lost.
+//! - [`ReaderTold::Delivered`]: the hub has the message. [`ReaderTold::Failed`]: it may have it all the same, and only
+//!   its answers were lost.
+//! - A silence that grows may be given again. A second character gap does nothing; a message gap behind a character gap
+//!   does what it does alone, and a second one nothing more.
 //! - A reader's permanent values outlast power-off where [`Reader::control`] is kept and given to
 //!   [`Reader::powered_up`]; every parameter is then to be read, for a blank memory (all FFh, or all 0) has values
-//!   outside their ranges: nothing was kept, and [`Reader::new`] is due. A hub keeps nothing.
+//!   outside their ranges: nothing was kept, and [`Reader::new`] is due. So it is after an update: control values are
+//!   not kept over a change of [`VERSION`]. A hub keeps nothing.
 
 #![no_std]
 #![warn(missing_docs)]
@@ -63,7 +105,6 @@ mod hub;
 pub mod lent;
 mod numbers;
 pub mod packet;
-#[allow(missing_docs)]
 pub mod raw;
 mod reader;
 mod refusal;
@@ -72,6 +113,11 @@ mod sender;
 pub use framer::{Found, Framer};
 pub use heard::{Event, Heard, Reply};
 pub use hub::{Hub, HubTold};
+pub use lent::sender::heed;
 pub use reader::{Beep, Reader, ReaderTold, Switches};
 pub use refusal::Refusal;
-pub use sender::{heed, Outcome, Sender};
+pub use sender::{Outcome, Sender};
+
+/// The version of this crate and of the archive, as `MK_VERSION` in C. It rises with each change of what stands where
+/// in a control value, so whoever stores one stores this with it.
+pub const VERSION: &str = env!("CARGO_PKG_VERSION");

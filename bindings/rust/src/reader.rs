@@ -1,9 +1,12 @@
 //! The reader's whole end with its buffers.
 
-use crate::buffer::{control, Buffer};
+use core::mem::{align_of, size_of};
+
+use crate::buffer::Buffer;
 use crate::constants::{
-    LINE_SIZE, MESSAGE_SIZE, PACKET_SIZE, READER_ANSWER_SIZE, READER_CONTROL_SIZE, READER_VALUES, READER_VALUE_COUNT,
-    READER_VALUE_DURATION, READER_VALUE_PITCH, SWITCH_AIM, SWITCH_LED, SWITCH_SCANNING, SWITCH_SESSION, SWITCH_VALUES,
+    ACK_NAK_ON, BAUD_9600, DATA_PACKETED, LINE_SIZE, MESSAGE_SIZE, PACKET_SIZE, PARITY_NONE, POWER_CONTINUOUS,
+    READER_ANSWER_SIZE, READER_CONTROL_SIZE, READER_VALUES, READER_VALUE_COUNT, READER_VALUE_DURATION,
+    READER_VALUE_PITCH, SWITCH_AIM, SWITCH_LED, SWITCH_SCANNING, SWITCH_SESSION, SWITCH_VALUES, TRIGGER_LEVEL,
 };
 use crate::lent::reader;
 use crate::numbers::byte;
@@ -57,8 +60,8 @@ impl Switches {
     }
 }
 
-/// What an event brought a reader, with the answer that goes on the line. The host's ACK and NAK are no commands, so an
-/// event brings something of a command or of the sender, never of both.
+/// What an event brought a reader. The host's ACK and NAK are no commands, so an event brings something of a command,
+/// with the answer that goes on the line, or something of the sender, never both.
 #[must_use = "the answer or the copy goes on the line"]
 #[derive(Clone, Copy, Debug, PartialEq, Eq)]
 pub enum ReaderTold<'a> {
@@ -83,23 +86,55 @@ pub enum ReaderTold<'a> {
         /// A NAK or no bytes.
         answer: &'a [u8],
     },
-    /// The host answered the sender, and this came of it.
-    Sent(Outcome<'a>),
+    /// The host answered the sender: a copy of a packet, to be sent with a character gap after it.
+    Copy(&'a [u8]),
+    /// The host answered the sender: the message was delivered, the hub has it.
+    Delivered {
+        /// Its marked copies.
+        copies: usize,
+    },
+    /// The host answered the sender: the message failed, and a message gap is due before the next one. The hub may have
+    /// it all the same, where only its answers were lost.
+    Failed {
+        /// Its marked copies.
+        copies: usize,
+    },
 }
 
 impl<'a> ReaderTold<'a> {
-    /// The answer that goes on the line, whatever was told; often no bytes.
-    pub fn answer(&self) -> &'a [u8] {
+    /// What goes on the line, whatever was told: an answer, a copy, or no bytes. The response time-out runs behind a
+    /// copy alone.
+    pub fn outgoing(&self) -> &'a [u8] {
         match *self {
-            ReaderTold::Nothing | ReaderTold::Sent(_) => &[],
+            ReaderTold::Nothing | ReaderTold::Delivered { .. } | ReaderTold::Failed { .. } => &[],
             ReaderTold::Acted { answer, .. } | ReaderTold::Repeated { answer } | ReaderTold::Refused { answer, .. } => {
                 answer
             }
+            ReaderTold::Copy(copy) => copy,
         }
     }
 }
 
-/// The reader's end of the line: its commands with the parameter table, and its sender.
+/// What [`reader::on`] makes: the house defaults in the order of their numbers, present and permanent, and scanning
+/// enabled; all else is 0. A constant, so that a reader may be a `static`.
+const ON: [u8; READER_CONTROL_SIZE] = {
+    const PRESENT: usize = 26;
+    const SCANNING: usize = 44;
+    const DEFAULTS: [u8; 9] =
+        [POWER_CONTINUOUS, 10, TRIGGER_LEVEL, 20, BAUD_9600, PARITY_NONE, ACK_NAK_ON, 0, DATA_PACKETED];
+    let mut control = [0; READER_CONTROL_SIZE];
+    let mut at = 0;
+    while at < DEFAULTS.len() {
+        control[PRESENT + at] = DEFAULTS[at];
+        control[PRESENT + DEFAULTS.len() + at] = DEFAULTS[at];
+        at += 1;
+    }
+    control[SCANNING] = 1;
+    control
+};
+
+/// The reader's end of the line: its commands with the parameter table, and its sender. It has 5,000 bytes and an
+/// alignment of 1.
 #[derive(Clone, Debug, PartialEq, Eq)]
 pub struct Reader {
     control: [u8; READER_CONTROL_SIZE],
@@ -110,21 +145,24 @@ pub struct Reader {
     copy: Buffer<PACKET_SIZE>,
 }
 
+const _: () = assert!(size_of::<Reader>() == 5_000 && align_of::<Reader>() == 1);
+
 impl Reader {
     /// A reader switched on with the house defaults. A message gap is due before the first message.
-    pub fn new() -> Self {
-        Self::with(control(reader::on))
+    pub const fn new() -> Self {
+        Self::with(ON)
     }
 
-    /// A reader that powers up with the permanent values in control bytes that were kept over a loss of power. Then read
-    /// every parameter: if one is outside its range, nothing was kept (a blank memory), and [`Reader::new`] is due.
+    /// A reader that powers up with the permanent values in control bytes that were kept over a loss of power. Then
+    /// read every parameter: if one is outside its range, nothing was kept (a blank memory), and [`Reader::new`] is
+    /// due. So it is where they were kept under another [`VERSION`](crate::VERSION).
     pub fn powered_up(kept: [u8; READER_CONTROL_SIZE]) -> Self {
         let mut reader = Self::with(kept);
-        reader.power_up();
+        reader.restart();
         reader
     }
 
-    fn with(control: [u8; READER_CONTROL_SIZE]) -> Self {
+    const fn with(control: [u8; READER_CONTROL_SIZE]) -> Self {
         Reader {
             control,
             line: Buffer::new(),
@@ -135,41 +173,42 @@ impl Reader {
         }
     }
 
-    /// The control bytes, in which the permanent values stand.
+    /// The control bytes, in which the permanent values stand. Keep [`VERSION`](crate::VERSION) with them.
     pub fn control(&self) -> &[u8; READER_CONTROL_SIZE] {
         &self.control
     }
 
     /// Power-up: permanent values are copied to present ones; framer, sender and the last accepted packet are
     /// forgotten. So is whether the message before failed: a message gap is due before the first message after it.
-    pub fn power_up(&mut self) {
+    pub fn restart(&mut self) {
         // The control bytes have their size: nothing to refuse.
         let _ = reader::power_up(&mut self.control);
     }
 
     /// Starts a message with its code type. It is copied, so it need not be kept.
-    pub fn start(&mut self, code: u8, message: &[u8]) -> Outcome<'_> {
+    pub fn send(&mut self, code: u8, message: &[u8]) -> Outcome<'_> {
         reader::start(&mut self.control, &mut self.message.0, &mut self.copy.0, code, message)
     }
 
     /// The sender's response time-out.
-    pub fn time_out(&mut self) -> Outcome<'_> {
+    pub fn expire(&mut self) -> Outcome<'_> {
         reader::time_out(&mut self.control, &self.message.0, &mut self.copy.0)
     }
 
     /// One event of the line.
-    pub fn hear(&mut self, event: Event) -> ReaderTold<'_> {
+    #[inline]
+    pub fn event(&mut self, event: Event) -> ReaderTold<'_> {
         let Reader { control, line, answers, message, answer, copy } = self;
         reader::hear(control, &mut line.0, answers, &message.0, answer, &mut copy.0, event)
     }
 
     /// The present value of a parameter; 0 where it is not supported.
-    pub fn value(&self, number: u8) -> u8 {
+    pub fn parameter(&self, number: u8) -> u8 {
         reader::value(&self.control, number).unwrap_or(0)
     }
 
     /// What the commands have switched on.
-    pub fn switches(&self) -> Switches {
+    pub fn switched(&self) -> Switches {
         reader::switches(&self.control).unwrap_or_default()
     }
 }

@@ -1,5 +1,8 @@
 //! Refusals by name and number.
 
+use core::error::Error;
+use core::fmt;
+
 /// Why a call or a packet is refused, and its number (docs/PROTOCOL.md §6); 12 is unused. With 11 and 13 no lent byte
 /// changes.
 #[derive(Clone, Copy, Debug, PartialEq, Eq, PartialOrd, Ord, Hash)]
@@ -55,3 +58,25 @@ impl Refusal {
         })
     }
 }
+
+impl fmt::Display for Refusal {
+    fn fmt(&self, to: &mut fmt::Formatter<'_>) -> fmt::Result {
+        let why = match self {
+            Refusal::Length => "a length below 4",
+            Refusal::Checksum => "a wrong checksum",
+            Refusal::Cut => "cut by a gap, or too few bytes",
+            Refusal::Source => "a source that is wrong for this side",
+            Refusal::Status => "a status bit that is not allowed",
+            Refusal::Opcode => "an opcode that this side does not know",
+            Refusal::Data => "a data length that is wrong for the opcode",
+            Refusal::Beep => "a beep code that is not allowed",
+            Refusal::Setting => "a parameter or value that is not allowed",
+            Refusal::Barred => "the hub is barred, another code type, or too long a message",
+            Refusal::Start => "a message over 4,096 bytes, or one still out",
+            Refusal::Room => "a lent room that is too small",
+        };
+        write!(to, "refusal {}: {why}", self.number())
+    }
+}
+
+impl Error for Refusal {}

@@ -1,9 +1,11 @@
 //! The sender with its buffers.
 
-use crate::buffer::{control, Buffer};
+use core::mem::{align_of, size_of};
+
+use crate::buffer::Buffer;
 use crate::constants::{MESSAGE_SIZE, PACKET_SIZE, SENDER_CONTROL_SIZE};
 use crate::lent::sender;
-use crate::{calls, Heard, Refusal};
+use crate::{Heard, Refusal};
 
 /// What a call brought a sender.
 #[must_use = "a copy goes on the line"]
@@ -28,13 +30,11 @@ pub enum Outcome<'a> {
     Refused(Refusal),
 }
 
-/// What a sender hears of a packet with these fields and data. It heeds only a host's ACK without data or NAK with one
-/// byte, status 0 or 1.
-pub fn heed(opcode: u8, source: u8, status: u8, data: &[u8]) -> Heard {
-    Heard::from_number(calls::sender_heed(opcode, source, status, data))
-}
+/// Where the control value says that the message before failed; all else in an idle one is 0.
+const FAILED_BEFORE: usize = 2;
 
-/// A message cut into packets, each copied to the line until it is acknowledged.
+/// A message cut into packets, each copied to the line until it is acknowledged. It has 4,388 bytes and an alignment of
+/// 1.
 #[derive(Clone, Debug, PartialEq, Eq)]
 pub struct Sender {
     control: [u8; SENDER_CONTROL_SIZE],
@@ -42,29 +42,33 @@ pub struct Sender {
     copy: Buffer<PACKET_SIZE>,
 }
 
+const _: () = assert!(size_of::<Sender>() == 4_388 && align_of::<Sender>() == 1);
+
 impl Sender {
     /// A sender with nothing out.
-    pub fn new() -> Self {
+    pub const fn new() -> Self {
         Self::idle(false)
     }
 
     /// A sender with nothing out, after a message that failed or not.
-    pub fn idle(failed: bool) -> Self {
-        Sender { control: control(|bytes| sender::idle(bytes, failed)), message: Buffer::new(), copy: Buffer::new() }
+    pub const fn idle(failed: bool) -> Self {
+        let mut control = [0; SENDER_CONTROL_SIZE];
+        control[FAILED_BEFORE] = failed as u8;
+        Sender { control, message: Buffer::new(), copy: Buffer::new() }
     }
 
     /// Starts a message with its code type. It is copied, so it need not be kept.
-    pub fn start(&mut self, code: u8, message: &[u8]) -> Outcome<'_> {
+    pub fn send(&mut self, code: u8, message: &[u8]) -> Outcome<'_> {
         sender::start(&mut self.control, &mut self.message.0, &mut self.copy.0, code, message)
     }
 
     /// One thing heard of the host.
-    pub fn hear(&mut self, heard: Heard) -> Outcome<'_> {
+    pub fn heard(&mut self, heard: Heard) -> Outcome<'_> {
         sender::hear(&mut self.control, &self.message.0, &mut self.copy.0, heard)
     }
 
     /// Whether a message is out.
-    pub fn waits(&self) -> bool {
+    pub fn out(&self) -> bool {
         sender::waits(&self.control) == Ok(true)
     }
 }

@@ -1,8 +1,8 @@
 //! The reader's whole end over lent buffers.
 
 use crate::constants::{
-    ACTED, LINE_SIZE, MESSAGE_SIZE, READER_ANSWER_SIZE, READER_VALUE_ANSWER, READER_VALUE_SENT,
-    READER_VALUE_SENT_VALUE, REPEATED,
+    ACTED, COPY, DELIVERED, FAILED, LINE_SIZE, MESSAGE_SIZE, PACKET_SIZE, READER_ANSWER_SIZE, READER_CONTROL_SIZE,
+    READER_VALUE_ANSWER, READER_VALUE_SENT, REPEATED,
 };
 use crate::lent::sender::outcome;
 use crate::numbers::{byte, done, front, told};
@@ -11,7 +11,7 @@ use crate::sender::Outcome;
 use crate::{calls, Event, Refusal};
 
 /// A reader switched on with the house defaults. A message gap is due before the first message. Its control value has
-/// [`READER_CONTROL_SIZE`](crate::constants::READER_CONTROL_SIZE).
+/// [`READER_CONTROL_SIZE`].
 pub fn on(control: &mut [u8]) -> Result<(), Refusal> {
     done(calls::reader_on(control))
 }
@@ -23,7 +23,7 @@ pub fn power_up(control: &mut [u8]) -> Result<(), Refusal> {
 }
 
 /// Starts a message: it is copied to the buffer, and the first copy of its first packet is written to the copy room
-/// ([`PACKET_SIZE`](crate::constants::PACKET_SIZE)).
+/// ([`PACKET_SIZE`]).
 pub fn start<'a>(
     control: &mut [u8],
     message: &mut [u8; MESSAGE_SIZE],
@@ -42,8 +42,27 @@ pub fn time_out<'a>(control: &mut [u8], message: &[u8; MESSAGE_SIZE], copy: &'a 
 }
 
 /// One event of the line. `answers` keeps the last answer for a resend; the answer then stands at the front of the
-/// answer room ([`READER_ANSWER_SIZE`]), a copy at the front of the copy room.
+/// answer room ([`READER_ANSWER_SIZE`]), a copy at the front of the copy room ([`PACKET_SIZE`]).
+#[inline]
 pub fn hear<'a>(
+    control: &mut [u8],
+    line: &mut [u8; LINE_SIZE],
+    answers: &mut [u8; READER_ANSWER_SIZE],
+    message: &[u8; MESSAGE_SIZE],
+    answer: &'a mut [u8],
+    copy: &'a mut [u8],
+    event: Event,
+) -> ReaderTold<'a> {
+    // The short way knows no rooms and stands for an event with rooms of full size, so their sizes are looked at first.
+    let full = control.len() >= READER_CONTROL_SIZE && answer.len() >= READER_ANSWER_SIZE && copy.len() >= PACKET_SIZE;
+    if full && calls::go_on(control, line, event.number()) {
+        return ReaderTold::Nothing;
+    }
+    hear_whole(control, line, answers, message, answer, copy, event)
+}
+
+/// The event by the call that takes every event, and refuses rooms.
+fn hear_whole<'a>(
     control: &mut [u8],
     line: &mut [u8; LINE_SIZE],
     answers: &mut [u8; READER_ANSWER_SIZE],
@@ -54,15 +73,15 @@ pub fn hear<'a>(
 ) -> ReaderTold<'a> {
     let (number, values) = calls::reader_hear(control, line, answers, message, answer, copy, event.number());
     let answer = front(answer, values[READER_VALUE_ANSWER]);
+    let sent = values[READER_VALUE_SENT];
     match told(number) {
         Ok(ACTED) => ReaderTold::Acted { beep: Beep::from_values(values), answer },
         Ok(REPEATED) => ReaderTold::Repeated { answer },
+        Ok(COPY) => ReaderTold::Copy(front(copy, sent)),
+        Ok(DELIVERED) => ReaderTold::Delivered { copies: sent },
+        Ok(FAILED) => ReaderTold::Failed { copies: sent },
+        Ok(_) => ReaderTold::Nothing,
         Err(why) => ReaderTold::Refused { why, answer },
-        // No command: if the host answered, the sender says what that brought.
-        Ok(_) => match outcome(values[READER_VALUE_SENT] as u32, values[READER_VALUE_SENT_VALUE], copy) {
-            Outcome::Nothing => ReaderTold::Nothing,
-            outcome => ReaderTold::Sent(outcome),
-        },
     }
 }
 

@@ -35,6 +35,12 @@ pub fn waits(control: &[u8]) -> Result<bool, Refusal> {
     told(calls::sender_waits(control)).map(|number| number == OUT)
 }
 
+/// What a sender hears of a packet with these fields and data. It heeds only a host's ACK without data or NAK with one
+/// byte, status 0 or 1.
+pub fn heed(opcode: u8, source: u8, status: u8, data: &[u8]) -> Heard {
+    Heard::from_number(calls::sender_heed(opcode, source, status, data))
+}
+
 /// What a sender brought, of its number, its value and the copy room. The reader's sender tells the same.
 pub(crate) fn outcome(number: u32, value: usize, copy: &[u8]) -> Outcome<'_> {
     match told(number) {

@@ -11,13 +11,17 @@ use crate::fenced::Fenced;
 /// What no call leaves in the values.
 const JUNK: usize = usize::MAX;
 
-/// Any number that the library takes for this event.
-pub fn event_number(dice: &mut Dice, event: Event) -> u32 {
+/// The number of an event, and any number that is none's.
+pub fn event_number(event: Event) -> u32 {
     match event {
         Event::Byte(byte) => byte.into(),
         Event::CharacterGap => 256,
-        Event::MessageGap => 257 + dice.below(4_294_967_039) as u32,
+        Event::MessageGap => 257,
     }
+}
+
+pub fn no_event(dice: &mut Dice) -> u32 {
+    258 + dice.below(4_294_967_038) as u32
 }
 
 // ---- the raw calls
@@ -46,6 +50,12 @@ pub fn framer([control, line]: &mut [Fenced; 2], event: u32) -> (u32, [usize; 4]
     let (state, to) = (control.as_mut_ptr(), line.as_mut_ptr());
     let number = unsafe { raw::mk_framer_hear(state, control.len(), to, line.len(), event, &mut head) };
     (number, head)
+}
+
+/// Of a hub or a reader: its control value and its line.
+pub fn go_on(control: &mut Fenced, line: &mut Fenced, event: u32) -> bool {
+    let front = control.lent().first_chunk_mut().expect("a control value");
+    unsafe { raw::mk_go_on(front, line.array(), event) }
 }
 
 pub fn hub([control, line, gather, answer, message]: &mut [Fenced; 5], event: u32) -> (u32, [usize; 3]) {
@@ -116,8 +126,8 @@ pub fn reader_power_up([control, ..]: &mut Reader) -> u32 {
     unsafe { raw::mk_reader_power_up(control.as_mut_ptr(), control.len()) }
 }
 
-pub fn reader_hear([control, line, answers, message, answer, copy]: &mut Reader, event: u32) -> (u32, [usize; 6]) {
-    let (control, answer, copy, mut values) = (control.lent(), answer.lent(), copy.lent(), [JUNK; 6]);
+pub fn reader_hear([control, line, answers, message, answer, copy]: &mut Reader, event: u32) -> (u32, [usize; 5]) {
+    let (control, answer, copy, mut values) = (control.lent(), answer.lent(), copy.lent(), [JUNK; 5]);
     let number = unsafe {
         raw::mk_reader_hear(
             control.as_mut_ptr(),
@@ -200,19 +210,22 @@ pub fn of_outcome(outcome: Outcome<'_>) -> (u32, usize) {
     }
 }
 
-pub fn of_reader(told: ReaderTold<'_>) -> (u32, [usize; 6]) {
-    let answer = told.answer().len();
+pub fn of_reader(told: ReaderTold<'_>) -> (u32, [usize; 5]) {
+    let outgoing = told.outgoing().len();
     match told {
-        ReaderTold::Nothing => (0, [0; 6]),
-        ReaderTold::Acted { beep, .. } => {
+        ReaderTold::Nothing => (0, [0; 5]),
+        ReaderTold::Acted { beep, answer } => {
             let row = beep.map_or([0; 3], |beep| [beep.duration, beep.pitch, beep.count]).map(usize::from);
-            (130, [answer, row[0], row[1], row[2], 0, 0])
+            assert_eq!(answer.len(), outgoing);
+            (130, [outgoing, row[0], row[1], row[2], 0])
         }
-        ReaderTold::Repeated { .. } => (111, [answer, 0, 0, 0, 0, 0]),
-        ReaderTold::Refused { why, .. } => (why.number(), [answer, 0, 0, 0, 0, 0]),
-        ReaderTold::Sent(outcome) => {
-            let (number, value) = of_outcome(outcome);
-            (0, [0, 0, 0, 0, number as usize, value])
+        ReaderTold::Repeated { .. } => (111, [outgoing, 0, 0, 0, 0]),
+        ReaderTold::Refused { why, .. } => (why.number(), [outgoing, 0, 0, 0, 0]),
+        ReaderTold::Copy(copy) => {
+            assert_eq!(copy.len(), outgoing);
+            (120, [0, 0, 0, 0, copy.len()])
         }
+        ReaderTold::Delivered { copies } => (121, [outgoing, 0, 0, 0, copies]),
+        ReaderTold::Failed { copies } => (122, [outgoing, 0, 0, 0, copies]),
     }
 }

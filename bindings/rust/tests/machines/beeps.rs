@@ -67,7 +67,7 @@ fn commands_switch() {
         let acted = ReaderTold::Acted { beep: None, answer: &reader_ack() };
         assert_eq!(reader_hears(&mut reader, &sent(&command(opcode, data))), acted);
         let [scanning, session, aim, led] = on.map(|on| on == 1);
-        assert_eq!(reader.switches(), Switches { scanning, session, aim, led });
+        assert_eq!(reader.switched(), Switches { scanning, session, aim, led });
     }
 }
 

@@ -50,7 +50,7 @@ fn cases_5_to_8_are_built_and_checked() {
 #[test]
 fn cases_5_and_6_are_sent_and_handed_out() {
     for (text, card) in [(CASE_5, &b"8"[..]), (CASE_6, b"")] {
-        assert_eq!(Sender::new().start(0x1B, card), Outcome::Copy(&bytes(text)));
+        assert_eq!(Sender::new().send(0x1B, card), Outcome::Copy(&bytes(text)));
         let whole = HubTold::Message { code: 0x1B, message: card, answer: &hub_ack() };
         assert_eq!(hub_hears(&mut Hub::new(), &sent(&bytes(text))), whole);
     }
@@ -69,14 +69,14 @@ fn case_8_is_answered_after_case_7() {
 fn pieces(size: usize) -> Vec<(u8, usize)> {
     let mut sender = Sender::new();
     let mut pieces = Vec::new();
-    let mut outcome = sender.start(0x1B, &vec![0x38; size]);
+    let mut outcome = sender.send(0x1B, &vec![0x38; size]);
     while let Outcome::Copy(copy) = outcome {
         let head = check(copy).expect("a packet");
         pieces.push((head.status, head.data(copy).len() - 1));
-        outcome = sender.hear(Heard::Ack);
+        outcome = sender.heard(Heard::Ack);
     }
     assert_eq!(outcome, Outcome::Delivered { copies: 0 });
-    assert!(!sender.waits());
+    assert!(!sender.out());
     pieces
 }
 
@@ -88,5 +88,5 @@ fn cases_9_and_10_are_cut_into_pieces() {
     assert_eq!(long.len(), 17);
     assert_eq!(long[..16], [(STATUS_MORE, 250); 16]);
     assert_eq!(long[16], (0, 96));
-    assert_eq!(Sender::new().start(0x1B, &[0x38; 4_097]), Outcome::Refused(Refusal::Start));
+    assert_eq!(Sender::new().send(0x1B, &[0x38; 4_097]), Outcome::Refused(Refusal::Start));
 }

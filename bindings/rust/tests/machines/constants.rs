@@ -10,10 +10,11 @@ const CONSTANTS: &str = include_str!("../../src/constants.rs");
 /// Names with their numbers.
 type Named = BTreeMap<String, u64>;
 
-/// In each line that begins so: a name, perhaps its type, ` = `, and a number.
+/// In each line that begins so, but for the header's assertions: a name, perhaps its type, ` = `, and a number.
 fn named(text: &str, begin: &str) -> Named {
     let mut named = Named::new();
-    for line in text.lines().filter_map(|line| line.trim().strip_prefix(begin)) {
+    let lines = text.lines().filter_map(|line| line.trim().strip_prefix(begin));
+    for line in lines.filter(|line| !line.starts_with("ASSERT(")) {
         let (name, number) = line.split_once(" = ").expect("a name and a number");
         let name = name.split(':').next().expect("a name");
         let digits = number.split([',', ';', ' ']).next().expect("a number");

@@ -1,5 +1,8 @@
 //! Names and numbers.
 
+use std::collections::BTreeSet;
+use std::error::Error;
+
 use motikhund::{heed, Event, Heard, Refusal, Reply};
 
 #[test]
@@ -23,6 +26,25 @@ fn each_refusal_has_its_number() {
         assert_eq!(Refusal::from_number(number), name);
     }
     assert!(named.iter().all(|(name, number)| name.number() == *number));
+}
+
+/// A refusal is an error like others: `?` takes it, and it says its number and why.
+#[test]
+fn each_refusal_is_an_error() {
+    fn refused() -> Result<(), Box<dyn Error>> {
+        motikhund::lent::hub::on(&mut [])?;
+        Ok(())
+    }
+    let why = refused().expect_err("no room");
+    assert_eq!(why.to_string(), "refusal 13: a lent room that is too small");
+    assert_eq!(why.downcast_ref(), Some(&Refusal::Room));
+    let all: Vec<Refusal> = (0..20).filter_map(Refusal::from_number).collect();
+    let texts: BTreeSet<String> = all.iter().map(Refusal::to_string).collect();
+    assert!(
+        texts.len() == 12 && all.iter().all(|why| why.to_string().starts_with(&format!("refusal {}: ", *why as u8)))
+    );
+    let reasons: BTreeSet<&str> = texts.iter().filter_map(|text| Some(text.split_once(": ")?.1)).collect();
+    assert_eq!(reasons.len(), 12);
 }
 
 #[test]

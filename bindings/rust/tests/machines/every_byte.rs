@@ -12,11 +12,10 @@ use crate::notation::{bytes, events, nak};
 use crate::refusals::{Case, HUB_CASES, READER_CASES};
 use crate::rooms::lends;
 
-// Where the parts of a control value stand (crates/motikhund/specs/Control.antt).
-const COUNT: usize = 0;
-const DEAF: usize = 8;
-const SECOND: usize = 9;
-const LAST: usize = 10;
+// Where the parts of a control value stand (crates/motikhund/specs/Control.antt). Who changes this raises the version.
+pub const COUNT: usize = 0;
+pub const DEAF: usize = 8;
+pub const SECOND: usize = 9;
 const BARRED: usize = 18;
 const BEGUN: usize = 19;
 const CODE: usize = 20;
@@ -29,13 +28,31 @@ const OUT_FLAG: usize = 0;
 const FAILED_FLAG: usize = 2;
 const LENGTH: usize = 3;
 
-fn put(control: &mut [u8], at: usize, number: u64) {
+/// The flags behind the framer's bytes.
+pub const HUB_FLAGS: [usize; 4] = [DEAF, SECOND, BARRED, BEGUN];
+pub const READER_FLAGS: [usize; 8] = [
+    DEAF,
+    SECOND,
+    SWITCHES,
+    SWITCHES + 1,
+    SWITCHES + 2,
+    SWITCHES + 3,
+    READERS_SENDER + OUT_FLAG,
+    READERS_SENDER + FAILED_FLAG,
+];
+
+pub fn put(control: &mut [u8], at: usize, number: u64) {
     control[at..at + 8].copy_from_slice(&number.to_le_bytes());
 }
 
 /// A flag that is not 1 is not set.
 fn due_flag(control: &mut [u8], at: usize) {
     control[at] = u8::from(control[at] == 1);
+}
+
+/// The flags behind the framer's bytes, each put in order.
+pub fn due_flags(control: &mut [u8], flags: &[usize]) {
+    flags.iter().for_each(|at| due_flag(control, *at));
 }
 
 /// A number over its limit is 0.
@@ -50,21 +67,16 @@ fn due_framer(control: &mut [u8], why: Refusal) {
     control[DEAF] = u8::from(why <= Refusal::Checksum);
 }
 
-fn due_line(control: &mut [u8], why: Refusal) {
-    due_framer(control, why);
-    due_flag(control, SECOND);
-    due_number(control, LAST, PACKET_SIZE - 2);
-}
-
-/// 10 bars the hub, and then nothing is gathered. A message gap clears everything.
+/// What was gathered is put in order where the framer tells something; 10 bars the hub, and then nothing is gathered. A
+/// message gap clears everything.
 fn due_hub(control: &mut [u8], why: Refusal, event: u32) {
-    due_line(control, why);
-    due_flag(control, BARRED);
-    if why == Refusal::Barred || control[BEGUN] != 1 {
-        control[BEGUN..HUB_CONTROL_SIZE].fill(0);
-    }
+    due_framer(control, why);
+    due_flags(control, &HUB_FLAGS);
     if why == Refusal::Barred {
         control[BARRED] = 1;
+    }
+    if why == Refusal::Barred || control[BEGUN] != 1 {
+        control[BEGUN..HUB_CONTROL_SIZE].fill(0);
     }
     due_number(control, GATHERED, MESSAGE_SIZE);
     if event == MESSAGE_GAP {
@@ -73,15 +85,14 @@ fn due_hub(control: &mut [u8], why: Refusal, event: u32) {
 }
 
 fn due_reader(control: &mut [u8], why: Refusal) {
-    due_line(control, why);
+    due_framer(control, why);
+    due_flags(control, &READER_FLAGS);
     due_number(control, ANSWERED, READER_ANSWER_SIZE);
-    (0..SWITCH_VALUES).for_each(|switch| due_flag(control, SWITCHES + switch));
-    due_flag(control, READERS_SENDER + OUT_FLAG);
-    due_flag(control, READERS_SENDER + FAILED_FLAG);
 }
 
 /// All events but the last have come: their bytes stand in the half that receives. Where there are none, the count
-/// stays garbage, which no packet reaches. Gives the last; its byte is due in its place.
+/// stays garbage, which no packet reaches. Gives the last; the short way of hub and reader leaves it. Its byte is due
+/// in its place.
 fn come(control: &mut Fenced, line: &mut Fenced, text: &str) -> u32 {
     // A framer's line is one half alone.
     let second = line.lent().len() == LINE_SIZE && control.lent()[SECOND] == 1;
@@ -99,6 +110,9 @@ fn come(control: &mut Fenced, line: &mut Fenced, text: &str) -> u32 {
     }
     control.remember();
     line.remember();
+    if line.lent().len() == LINE_SIZE {
+        assert!(!bare::go_on(control, line, last) && control.unchanged() && line.unchanged(), "{text}");
+    }
     if let Ok(byte) = u8::try_from(last) {
         line.due()[half + numbers.len()] = byte;
     }
@@ -225,7 +239,7 @@ fn reader_refuses((text, why, cause): (&str, Refusal, u8)) {
         let answers = control.lent()[HANDSHAKE] == ACK_NAK_ON && !(out && why <= Refusal::Cut);
         due_reader(control.due(), why);
         let size = if answers { due_answer(answer, &nak(SOURCE_READER, cause)) } else { 0 };
-        assert_eq!(bare::reader_hear(&mut lent, event), (why.number(), [size, 0, 0, 0, 0, 0]), "{about}, {text}");
+        assert_eq!(bare::reader_hear(&mut lent, event), (why.number(), [size, 0, 0, 0, 0]), "{about}, {text}");
         assert!(lent.iter().all(Fenced::unchanged), "{about}, {text}");
     });
 }
@@ -286,4 +300,32 @@ fn of_short_rooms() {
     lends(asks(&[0, 5]), (ROOM, 0), |_, lent| bare::reader_time_out(lent));
     lends(asks(&[0]), (ROOM, 0), |dice, lent| bare::reader_value(lent, dice.byte()));
     lends(asks(&[0]), (ROOM, [0; SWITCH_VALUES]), |_, lent| bare::reader_switches(lent));
+}
+
+/// Numbers above that of a message gap, and replies above that of an ACK, do nothing.
+#[test]
+fn of_no_events() {
+    let above = [258, 512, 1 << 31, u32::MAX - 255, u32::MAX];
+    each([Size::Room(ANSWER_SIZE)], above.len(), |way, [mut room], about| {
+        for source in [0, 1, 4] {
+            assert_eq!(bare::answer(&mut room, source, above[way] - 1), (NOTHING, 0), "{about}");
+        }
+        assert!(room.unchanged(), "{about}");
+    });
+    each(FRAMER, above.len(), |way, mut lent, about| {
+        assert_eq!(bare::framer(&mut lent, above[way]), (NOTHING, [0; HEAD_VALUES]), "{about}");
+        assert!(lent.iter().all(Fenced::unchanged), "{about}");
+    });
+    each(HUB, above.len(), |way, mut lent, about| {
+        let [control, line, ..] = &mut lent;
+        assert!(!bare::go_on(control, line, above[way]), "{about}");
+        assert_eq!(bare::hub(&mut lent, above[way]), (NOTHING, [0; HUB_VALUES]), "{about}");
+        assert!(lent.iter().all(Fenced::unchanged), "{about}");
+    });
+    each(READER, above.len(), |way, mut lent, about| {
+        let [control, line, ..] = &mut lent;
+        assert!(!bare::go_on(control, line, above[way]), "{about}");
+        assert_eq!(bare::reader_hear(&mut lent, above[way]), (NOTHING, [0; READER_VALUES]), "{about}");
+        assert!(lent.iter().all(Fenced::unchanged), "{about}");
+    });
 }

@@ -13,6 +13,7 @@ use motikhund::{packet, Heard, Reply};
 
 use crate::bare;
 use crate::dice::Dice;
+use crate::every_byte::{due_flags, HUB_FLAGS, READER_FLAGS};
 use crate::fenced::{Fenced, Size, FRAMER, HUB, READER, SENDER};
 use crate::notation;
 use crate::streams::{Side, Stream};
@@ -52,8 +53,12 @@ impl<const N: usize> Twins<N> {
         self.bare = self.safe.clone();
     }
 
-    /// Both left the same, and nothing past so many bytes of each buffer.
-    fn agree(&mut self, written: [usize; N]) {
+    /// Both left the same, and nothing past so many bytes of each buffer. In the control value a flag that was read as
+    /// not set may be any byte but 1: the short way leaves it, and the call writes what it read.
+    fn agree(&mut self, flags: &[usize], written: [usize; N]) {
+        for control in [&mut self.safe[0], &mut self.bare[0]] {
+            due_flags(control.lent(), flags);
+        }
         for ((safe, bare), written) in self.safe.iter_mut().zip(&mut self.bare).zip(written) {
             assert!(safe == bare, "left differently");
             assert!(safe.unchanged_past(written), "written past what was told");
@@ -92,15 +97,15 @@ fn the_packet() {
                 assert_eq!(written, notation::packet(opcode, source, status, &data));
             }
             built.insert(told.0);
-            rooms.agree([told.1, 0]);
+            rooms.agree(&[], [told.1, 0]);
 
             let (reply, number) = match dice.below(512) as u32 {
                 cause @ 0..=255 => (Reply::Nak(cause as u8), cause),
-                number => (Reply::Ack, number << dice.below(24)),
+                _ => (Reply::Ack, 256),
             };
             let told = bare::answer(&mut rooms.bare[1], source, number);
             assert_eq!(bare::of_built(packet::answer(rooms.safe[1].lent(), source, reply)), told);
-            rooms.agree([0, told.1]);
+            rooms.agree(&[], [0, told.1]);
         }
     });
     assert_eq!(seen, [1, 2, 3, 100].into());
@@ -118,11 +123,11 @@ fn the_framer() {
                 twins.garble(dice, &[0], &[8]);
             }
             let event = stream.next(dice);
-            let told = bare::framer(&mut twins.bare, bare::event_number(dice, event));
+            let told = bare::framer(&mut twins.bare, bare::event_number(event));
             let [control, line] = &mut twins.safe;
             assert_eq!(bare::of_found(framer::hear(control.lent(), line.lent(), event)), told);
             seen.insert(told.0);
-            twins.agree([FRAMER_CONTROL_SIZE, PACKET_SIZE]);
+            twins.agree(&[], [FRAMER_CONTROL_SIZE, PACKET_SIZE]);
         }
     });
     assert_eq!(seen, [0, 1, 2, 3, 100].into());
@@ -139,14 +144,14 @@ fn the_hub() {
                 twins.garble(dice, &[0, 10, 21], &[8, 9, 18, 19]);
             }
             let event = stream.next(dice);
-            let told = bare::hub(&mut twins.bare, bare::event_number(dice, event));
+            let told = bare::hub(&mut twins.bare, bare::event_number(event));
             let [control, line, gather, answer, message] = &mut twins.safe;
             let (line, gather) = (line.array(), gather.array());
             let safe = hub::hear(control.lent(), line, gather, answer.lent(), message.lent(), event);
             assert_eq!(bare::of_hub(safe), told);
             seen.insert(told.0);
             let (_, [answer, _, message]) = told;
-            twins.agree([HUB_CONTROL_SIZE, LINE_SIZE, MESSAGE_SIZE, answer, message]);
+            twins.agree(&HUB_FLAGS, [HUB_CONTROL_SIZE, LINE_SIZE, MESSAGE_SIZE, answer, message]);
         }
     });
     assert_eq!(seen, [0, 1, 2, 3, 4, 5, 6, 7, 10, 110, 111, 112].into());
@@ -191,7 +196,7 @@ fn the_sender() {
                 (told, 0)
             };
             seen.insert(told.0);
-            twins.agree([SENDER_CONTROL_SIZE, taken, copied(told)]);
+            twins.agree(&[], [SENDER_CONTROL_SIZE, taken, copied(told)]);
             let waits = bare::sender_waits(&mut twins.bare[0]);
             assert_eq!(sender::waits(twins.safe[0].lent()).map(|out| if out { 123 } else { 0 }), Ok(waits));
             seen.insert(waits);
@@ -238,23 +243,22 @@ fn the_reader() {
                 }
                 _ => {
                     let event = stream.next(dice);
-                    let told = bare::reader_hear(&mut twins.bare, bare::event_number(dice, event));
+                    let told = bare::reader_hear(&mut twins.bare, bare::event_number(event));
                     let (line, answers, message) = (line.array(), answers.array(), message.array());
                     let safe = reader::hear(control.lent(), line, answers, message, answer.lent(), copy.lent(), event);
                     assert_eq!(bare::of_reader(safe), told);
-                    let (number, [answer, _, _, _, sent, value]) = told;
+                    let (number, [answer, _, _, _, value]) = told;
                     seen.insert(number);
-                    brought.insert(sent as u32);
-                    written = [LINE_SIZE, READER_ANSWER_SIZE, 0, answer, copied((sent as u32, value))];
+                    written = [LINE_SIZE, READER_ANSWER_SIZE, 0, answer, copied((number, value))];
                 }
             }
             let [line, answers, message, answer, copy] = written;
-            twins.agree([READER_CONTROL_SIZE, line, answers, message, answer, copy]);
+            twins.agree(&READER_FLAGS, [READER_CONTROL_SIZE, line, answers, message, answer, copy]);
             let number = dice.pick(&[0x80, 0x89, 0x8A, 0x9B, 0x9C, 0x9E, 0x9F, 0xED, 0xEE, 0x00]);
             let (told, value) = bare::reader_value(&mut twins.bare, number);
             assert_eq!((told, Ok(value as u8)), (0, reader::value(twins.safe[0].lent(), number)));
         }
     });
-    assert_eq!(seen, [0, 1, 2, 3, 4, 5, 6, 7, 8, 9, 111, 130].into());
-    assert_eq!(brought, [0, 11, 120, 121, 122].into());
+    assert_eq!(seen, [0, 1, 2, 3, 4, 5, 6, 7, 8, 9, 111, 120, 121, 122, 130].into());
+    assert_eq!(brought, [0, 11, 120, 122].into());
 }

@@ -9,7 +9,7 @@ use crate::notation::{ack, hub_ack, hub_hears, nak, packet, reader_hears, sent};
 
 /// A message carried whole from reader to hub: the pieces, and what was handed out.
 fn carried(reader: &mut Reader, hub: &mut Hub, card: &[u8]) -> (usize, Vec<u8>) {
-    let mut copy = match reader.start(0x1B, card) {
+    let mut copy = match reader.send(0x1B, card) {
         Outcome::Copy(copy) => copy.to_vec(),
         outcome => panic!("{outcome:?}"),
     };
@@ -26,8 +26,8 @@ fn carried(reader: &mut Reader, hub: &mut Hub, card: &[u8]) -> (usize, Vec<u8>) 
             told => panic!("{told:?}"),
         };
         match reader_hears(reader, &sent(&answer)) {
-            ReaderTold::Sent(Outcome::Copy(next)) => copy = next.to_vec(),
-            ReaderTold::Sent(Outcome::Delivered { copies: 0 }) => return (pieces, handed.expect("a message")),
+            ReaderTold::Copy(next) => copy = next.to_vec(),
+            ReaderTold::Delivered { copies: 0 } => return (pieces, handed.expect("a message")),
             told => panic!("{told:?}"),
         }
     }
@@ -42,7 +42,7 @@ fn messages_of_every_length_that_matters() {
         let card = Dice::new(size as u64).bytes(size);
         assert_eq!(carried(&mut reader, &mut hub, &card), (pieces, card));
     }
-    assert_eq!(reader.start(0x1B, &[0x38; 4_097]), Outcome::Refused(Refusal::Start));
+    assert_eq!(reader.send(0x1B, &[0x38; 4_097]), Outcome::Refused(Refusal::Start));
 }
 
 #[test]
@@ -59,9 +59,9 @@ fn the_hub_refuses_4097_and_is_barred_until_a_message_gap() {
         HubTold::Message { code: 0x1B, message: &[0x1B; 4_096], answer: &ack }
     });
     assert_eq!(hub_hears(&mut hub, &last(97)), barred);
-    assert_eq!(hub.hear(Event::CharacterGap), HubTold::Nothing);
+    assert_eq!(hub.event(Event::CharacterGap), HubTold::Nothing);
     assert_eq!(hub_hears(&mut hub, &last(0)), barred);
-    assert_eq!(hub.hear(Event::MessageGap), HubTold::Nothing);
+    assert_eq!(hub.event(Event::MessageGap), HubTold::Nothing);
     assert_eq!(hub_hears(&mut hub, &last(0)), HubTold::Message { code: 0x1B, message: &[], answer: &ack });
 }
 
@@ -73,7 +73,7 @@ fn a_message_gap_drops_what_was_gathered_and_a_character_gap_does_not() {
     for (gap, message) in [(Event::CharacterGap, &b"SAMPLE 8"[..]), (Event::MessageGap, b"8")] {
         let mut hub = Hub::new();
         assert_eq!(hub_hears(&mut hub, &piece), HubTold::Added { answer: &ack });
-        assert_eq!(hub.hear(gap), HubTold::Nothing);
+        assert_eq!(hub.event(gap), HubTold::Nothing);
         assert_eq!(hub_hears(&mut hub, &last), HubTold::Message { code: 0x1B, message, answer: &ack });
     }
 }
@@ -83,32 +83,32 @@ fn a_message_gap_drops_what_was_gathered_and_a_character_gap_does_not() {
 fn a_sender_gives_up() {
     let mut sender = Sender::new();
     for (heard, marks) in [(Heard::TimeOut, 2), (Heard::Nak(1), 2), (Heard::Nak(6), 0)] {
-        let Outcome::Copy(first) = sender.start(0x1B, b"8") else { panic!("no copy") };
+        let Outcome::Copy(first) = sender.send(0x1B, b"8") else { panic!("no copy") };
         let mut marked = first.to_vec();
         marked[3] |= 1;
         marked[7] -= 1;
         for _ in 0..marks {
-            assert_eq!(sender.hear(heard), Outcome::Copy(&marked));
+            assert_eq!(sender.heard(heard), Outcome::Copy(&marked));
         }
-        assert!(sender.waits());
-        assert_eq!(sender.hear(Heard::Nothing), Outcome::Nothing);
-        assert_eq!(sender.hear(heard), Outcome::Failed { copies: marks });
-        assert!(!sender.waits());
+        assert!(sender.out());
+        assert_eq!(sender.heard(Heard::Nothing), Outcome::Nothing);
+        assert_eq!(sender.heard(heard), Outcome::Failed { copies: marks });
+        assert!(!sender.out());
     }
-    assert_eq!(sender.hear(Heard::TimeOut), Outcome::Nothing);
-    assert_eq!(sender.hear(Heard::Ack), Outcome::Nothing);
+    assert_eq!(sender.heard(Heard::TimeOut), Outcome::Nothing);
+    assert_eq!(sender.heard(Heard::Ack), Outcome::Nothing);
 }
 
 #[test]
 fn resends_are_counted_over_the_whole_message() {
     let mut sender = Sender::idle(true);
-    let mut outcome = sender.start(0x1B, &[0x38; 4_096]);
+    let mut outcome = sender.send(0x1B, &[0x38; 4_096]);
     for piece in 0..17 {
         for marked in 0..3 {
             let Outcome::Copy(copy) = outcome else { panic!("{piece} {marked}: {outcome:?}") };
             let resend = check(copy).expect("a packet").status & 1 == 1;
             assert_eq!(resend, marked > 0);
-            outcome = sender.hear(if marked < 2 { Heard::TimeOut } else { Heard::Ack });
+            outcome = sender.heard(if marked < 2 { Heard::TimeOut } else { Heard::Ack });
         }
     }
     assert_eq!(outcome, Outcome::Delivered { copies: 34 });
@@ -117,10 +117,10 @@ fn resends_are_counted_over_the_whole_message() {
 #[test]
 fn a_reader_sends_and_takes_commands_at_once() {
     let mut reader = Reader::new();
-    assert!(matches!(reader.start(0x1B, b"8"), Outcome::Copy(_)));
+    assert!(matches!(reader.send(0x1B, b"8"), Outcome::Copy(_)));
     let aim = packet(OPCODE_AIM_ON, SOURCE_HOST, 0, &[]);
     let acted = ReaderTold::Acted { beep: None, answer: &ack(SOURCE_READER) };
     assert_eq!(reader_hears(&mut reader, &sent(&aim)), acted);
-    let delivered = ReaderTold::Sent(Outcome::Delivered { copies: 0 });
+    let delivered = ReaderTold::Delivered { copies: 0 };
     assert_eq!(reader_hears(&mut reader, &sent(&ack(SOURCE_HOST))), delivered);
 }

@@ -58,15 +58,15 @@ pub fn reader_ack() -> Vec<u8> {
 pub fn hub_hears<'a>(hub: &'a mut Hub, events: &[Event]) -> HubTold<'a> {
     let (last, first) = events.split_last().expect("an event");
     for event in first {
-        assert_eq!(hub.hear(*event), HubTold::Nothing);
+        assert_eq!(hub.event(*event), HubTold::Nothing);
     }
-    hub.hear(*last)
+    hub.event(*last)
 }
 
 pub fn reader_hears<'a>(reader: &'a mut Reader, events: &[Event]) -> ReaderTold<'a> {
     let (last, first) = events.split_last().expect("an event");
     for event in first {
-        assert_eq!(reader.hear(*event), ReaderTold::Nothing);
+        assert_eq!(reader.event(*event), ReaderTold::Nothing);
     }
-    reader.hear(*last)
+    reader.event(*last)
 }

@@ -1,5 +1,7 @@
 //! The owning types do as their lent forms, and are values like others.
 
+use std::sync::Mutex;
+
 use motikhund::constants::{
     FRAMER_CONTROL_SIZE, HUB_ANSWER_SIZE, HUB_CONTROL_SIZE, LINE_SIZE, MESSAGE_SIZE, PACKET_SIZE, READER_ANSWER_SIZE,
     READER_CONTROL_SIZE, SENDER_CONTROL_SIZE,
@@ -20,7 +22,7 @@ fn a_framer() {
     let mut owner = Framer::new();
     for _ in 0..EVENTS {
         let event = stream.next(&mut dice);
-        assert_eq!(owner.hear(event), framer::hear(&mut control, &mut line, event));
+        assert_eq!(owner.event(event), framer::hear(&mut control, &mut line, event));
     }
 }
 
@@ -34,7 +36,7 @@ fn a_hub() {
     for _ in 0..EVENTS {
         let event = stream.next(&mut dice);
         let told = hub::hear(&mut control, &mut line, &mut gather, &mut answer, &mut message, event);
-        assert_eq!(owner.hear(event), told);
+        assert_eq!(owner.event(event), told);
     }
 }
 
@@ -45,15 +47,15 @@ fn a_sender() {
     assert_eq!(sender::idle(&mut control, true), Ok(()));
     let mut owner = Sender::idle(true);
     for _ in 0..EVENTS {
-        assert_eq!(Ok(owner.waits()), sender::waits(&control));
+        assert_eq!(Ok(owner.out()), sender::waits(&control));
         let size = dice.pick(&[0, 1, 251, 1_000]);
         let card = dice.bytes(size);
         if dice.chance(20) {
             let outcome = sender::start(&mut control, &mut buffer, &mut copy, 0x1B, &card);
-            assert_eq!(owner.start(0x1B, &card), outcome);
+            assert_eq!(owner.send(0x1B, &card), outcome);
         } else {
             let heard = dice.pick(&[Heard::Ack, Heard::Ack, Heard::Nak(1), Heard::Nak(2), Heard::TimeOut]);
-            assert_eq!(owner.hear(heard), sender::hear(&mut control, &buffer, &mut copy, heard));
+            assert_eq!(owner.heard(heard), sender::hear(&mut control, &buffer, &mut copy, heard));
         }
     }
 }
@@ -70,24 +72,44 @@ fn a_reader() {
             0 => {
                 let card = dice.bytes(300);
                 let outcome = reader::start(&mut control, &mut message, &mut copy, 0x1B, &card);
-                assert_eq!(owner.start(0x1B, &card), outcome);
+                assert_eq!(owner.send(0x1B, &card), outcome);
             }
-            1 => assert_eq!(owner.time_out(), reader::time_out(&mut control, &message, &mut copy)),
+            1 => assert_eq!(owner.expire(), reader::time_out(&mut control, &message, &mut copy)),
             2 if dice.chance(20) => {
-                owner.power_up();
+                owner.restart();
                 assert_eq!(reader::power_up(&mut control), Ok(()));
             }
             _ => {
                 let event = stream.next(&mut dice);
                 let (line, answers) = (&mut line, &mut answers);
                 let told = reader::hear(&mut control, line, answers, &message, &mut answer, &mut copy, event);
-                assert_eq!(owner.hear(event), told);
+                assert_eq!(owner.event(event), told);
             }
         }
         assert_eq!(owner.control(), &control);
-        assert_eq!(Ok(owner.switches()), reader::switches(&control));
-        assert_eq!(Ok(owner.value(0x89)), reader::value(&control, 0x89));
+        assert_eq!(Ok(owner.switched()), reader::switches(&control));
+        assert_eq!(Ok(owner.parameter(0x89)), reader::value(&control, 0x89));
     }
+}
+
+/// What is made as a constant is what the library's call makes, each in a `static`.
+#[test]
+fn they_are_made_as_by_the_calls() {
+    static FRAMER: Mutex<Framer> = Mutex::new(Framer::new());
+    static HUB: Mutex<Hub> = Mutex::new(Hub::new());
+    static SENDER: Mutex<Sender> = Mutex::new(Sender::new());
+    static READER: Mutex<Reader> = Mutex::new(Reader::new());
+    let (mut of_framer, mut of_hub) = ([0xAA; FRAMER_CONTROL_SIZE], [0xAA; HUB_CONTROL_SIZE]);
+    let (mut of_sender, mut of_reader) = ([0xAA; SENDER_CONTROL_SIZE], [0xAA; READER_CONTROL_SIZE]);
+    assert_eq!((framer::idle(&mut of_framer), hub::on(&mut of_hub)), (Ok(()), Ok(())));
+    assert_eq!((sender::idle(&mut of_sender, false), reader::on(&mut of_reader)), (Ok(()), Ok(())));
+    let has = |shown: String, control: &[u8]| assert!(shown.contains(&format!("control: {control:?}")), "{shown}");
+    has(format!("{:?}", FRAMER.lock().expect("whole")), &of_framer);
+    has(format!("{:?}", HUB.lock().expect("whole")), &of_hub);
+    has(format!("{:?}", SENDER.lock().expect("whole")), &of_sender);
+    has(format!("{:?}", READER.lock().expect("whole")), &of_reader);
+    assert_eq!(sender::idle(&mut of_sender, true), Ok(()));
+    has(format!("{:?}", Sender::idle(true)), &of_sender);
 }
 
 #[test]
@@ -97,9 +119,9 @@ fn they_are_values() {
     assert_ne!(sender, Sender::idle(true));
     let before = (framer.clone(), hub.clone(), reader.clone(), sender.clone());
     let begun = Event::Byte(4);
-    assert_eq!((framer.hear(begun), hub.hear(begun)), (Found::Nothing, HubTold::Nothing));
-    assert_eq!(reader.hear(begun), ReaderTold::Nothing);
-    assert!(matches!(sender.start(0, &[]), Outcome::Copy(_)));
+    assert_eq!((framer.event(begun), hub.event(begun)), (Found::Nothing, HubTold::Nothing));
+    assert_eq!(reader.event(begun), ReaderTold::Nothing);
+    assert!(matches!(sender.send(0, &[]), Outcome::Copy(_)));
     assert!(framer != before.0 && hub != before.1 && reader != before.2 && sender != before.3);
     assert!(format!("{hub:?}").contains("line: 514 bytes"));
     assert!(format!("{:?}", Sender::idle(true)).contains("control: [0, 0, 1, 0, "));

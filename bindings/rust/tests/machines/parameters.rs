@@ -29,7 +29,7 @@ fn acted(reader: &mut Reader, packet: &[u8]) {
 }
 
 fn values(reader: &Reader) -> [u8; 9] {
-    ROWS.map(|[number, ..]| reader.value(number))
+    ROWS.map(|[number, ..]| reader.parameter(number))
 }
 
 #[test]
@@ -38,7 +38,7 @@ fn the_house_defaults() {
     let defaults = ROWS.map(|[.., default]| default);
     assert_eq!(values(&reader), defaults);
     let others = (0..=255).filter(|number| ROWS.iter().all(|row| row[0] != *number));
-    assert!(others.clone().count() == 247 && others.clone().all(|number| reader.value(number) == 0));
+    assert!(others.clone().count() == 247 && others.clone().all(|number| reader.parameter(number) == 0));
     let pairs: Vec<u8> = ROWS.iter().flat_map(|[number, _, _, default]| [*number, *default]).collect();
     let all = packet(OPCODE_PARAM_SEND, SOURCE_READER, 0, &[&[0xFF], &pairs[..]].concat());
     assert_eq!(all.len(), 25);
@@ -50,18 +50,18 @@ fn the_house_defaults() {
 fn present_and_permanent_over_a_power_up() {
     let mut reader = Reader::new();
     acted(&mut reader, &set(0, &[0x89, 5, 0x89, 7]));
-    assert_eq!(reader.value(0x89), 7);
-    reader.power_up();
-    assert_eq!(reader.value(0x89), 10);
+    assert_eq!(reader.parameter(0x89), 7);
+    reader.restart();
+    assert_eq!(reader.parameter(0x89), 10);
     acted(&mut reader, &set(STATUS_PERMANENT, &[0x89, 9]));
     acted(&mut reader, &set(0, &[0x89, 7]));
-    assert_eq!(reader.value(0x89), 7);
-    assert_eq!(Reader::powered_up(*reader.control()).value(0x89), 9);
-    reader.power_up();
-    assert_eq!(reader.value(0x89), 9);
+    assert_eq!(reader.parameter(0x89), 7);
+    assert_eq!(Reader::powered_up(*reader.control()).parameter(0x89), 9);
+    reader.restart();
+    assert_eq!(reader.parameter(0x89), 9);
     acted(&mut reader, &command(OPCODE_PARAM_DEFAULTS, &[]));
-    reader.power_up();
-    assert_eq!(reader.value(0x89), 10);
+    reader.restart();
+    assert_eq!(reader.parameter(0x89), 10);
 }
 
 #[test]
@@ -71,7 +71,7 @@ fn power_up_forgets_the_last_accepted_packet_and_the_packet_begun() {
     acted(&mut reader, &set(0, &[0x89, 5]));
     assert_eq!(reader_hears(&mut reader, &sent(&again)), ReaderTold::Repeated { answer: &reader_ack() });
     assert_eq!(reader_hears(&mut reader, &sent(&again[..4])), ReaderTold::Nothing);
-    reader.power_up();
+    reader.restart();
     acted(&mut reader, &again);
 }
 
@@ -90,7 +90,7 @@ fn all_or_nothing() {
         for value in [low, high] {
             let mut reader = Reader::new();
             acted(&mut reader, &set(0, &[number, value]));
-            assert_eq!(reader.value(number), value);
+            assert_eq!(reader.parameter(number), value);
         }
     }
 }
@@ -102,9 +102,9 @@ fn without_handshaking() {
     acted(&mut reader, &set(0, &[0x9F, 0]));
     let again = reader_hears(&mut reader, &sent(&set(STATUS_RESEND, &[0x9F, 0])));
     assert_eq!(again, ReaderTold::Repeated { answer: &reader_ack() });
-    let short = reader.hear(Event::Byte(3));
+    let short = reader.event(Event::Byte(3));
     assert_eq!(short, ReaderTold::Refused { why: Refusal::Length, answer: &[] });
-    assert_eq!(reader.hear(Event::CharacterGap), ReaderTold::Nothing);
+    assert_eq!(reader.event(Event::CharacterGap), ReaderTold::Nothing);
     let on = reader_hears(&mut reader, &sent(&set(0, &[0x9F, 1])));
     assert_eq!(on, ReaderTold::Acted { beep: None, answer: &[] });
     let again = reader_hears(&mut reader, &sent(&set(STATUS_RESEND, &[0x9F, 1])));

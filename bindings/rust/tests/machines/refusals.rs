@@ -55,7 +55,7 @@ fn of_a_reader() {
         assert_eq!(reader_hears(&mut Reader::new(), &events(text)), told, "{text}");
         // While its sender waits, nothing goes out for 1 to 3.
         let mut waiting = Reader::new();
-        assert!(matches!(waiting.start(0x1B, b"8"), Outcome::Copy(_)));
+        assert!(matches!(waiting.send(0x1B, b"8"), Outcome::Copy(_)));
         let answer = if cause == CAUSE_RESEND { Vec::new() } else { nak(SOURCE_READER, cause) };
         let told = ReaderTold::Refused { why, answer: &answer };
         assert_eq!(reader_hears(&mut waiting, &events(text)), told, "{text}");
@@ -65,14 +65,14 @@ fn of_a_reader() {
 #[test]
 fn of_a_sender() {
     let refused = Outcome::Refused(Refusal::Start);
-    assert_eq!(Sender::new().start(0x1B, &[0; 4_097]), refused);
-    assert_eq!(Reader::new().start(0x1B, &[0; 4_097]), refused);
+    assert_eq!(Sender::new().send(0x1B, &[0; 4_097]), refused);
+    assert_eq!(Reader::new().send(0x1B, &[0; 4_097]), refused);
     let (mut sender, mut reader) = (Sender::new(), Reader::new());
-    assert!(matches!(sender.start(0x1B, b"8"), Outcome::Copy(_)));
-    assert!(matches!(reader.start(0x1B, b"8"), Outcome::Copy(_)));
+    assert!(matches!(sender.send(0x1B, b"8"), Outcome::Copy(_)));
+    assert!(matches!(reader.send(0x1B, b"8"), Outcome::Copy(_)));
     let (sender_out, reader_out) = (sender.clone(), reader.clone());
-    assert_eq!(sender.start(0x1B, b"9"), refused);
-    assert_eq!(reader.start(0x1B, b"9"), refused);
+    assert_eq!(sender.send(0x1B, b"9"), refused);
+    assert_eq!(reader.send(0x1B, b"9"), refused);
     assert_eq!((sender, reader), (sender_out, reader_out));
 }
 
@@ -82,8 +82,8 @@ fn of_a_framer() {
     let mut last = |text: &str| {
         let mut found = events(text);
         let last = found.pop().expect("an event");
-        found.into_iter().for_each(|event| assert_eq!(framer.hear(event), Found::Nothing));
-        match framer.hear(last) {
+        found.into_iter().for_each(|event| assert_eq!(framer.event(event), Found::Nothing));
+        match framer.event(last) {
             Found::Packet { head, packet } => Ok((head, packet.to_vec())),
             Found::Refused(why) => Err(Some(why)),
             Found::Nothing => Err(None),
@@ -126,6 +126,6 @@ fn acks_and_naks_are_not_refused() {
         assert_eq!(hub_hears(&mut Hub::new(), &events(text)), HubTold::Nothing);
         let mut reader = Reader::new();
         assert_eq!(reader_hears(&mut reader, &events(text)), ReaderTold::Nothing);
-        assert_eq!(reader.hear(Event::CharacterGap), ReaderTold::Nothing);
+        assert_eq!(reader.event(Event::CharacterGap), ReaderTold::Nothing);
     }
 }

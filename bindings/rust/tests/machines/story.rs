@@ -40,7 +40,7 @@ fn the_hub_adds_the_8_once() {
     let mut hub = Hub::new();
     for (copy, told) in expected {
         assert_eq!(hub_hears(&mut hub, &sent(&copy)), told);
-        assert_eq!(hub.hear(Event::CharacterGap), HubTold::Nothing);
+        assert_eq!(hub.event(Event::CharacterGap), HubTold::Nothing);
     }
 }
 
@@ -49,11 +49,11 @@ fn the_reader_sends_it_again() {
     let [first, last, again] = copies();
     let answered = sent(&ack(SOURCE_HOST));
     let mut reader = Reader::new();
-    assert_eq!(reader.start(0x1B, &card()), Outcome::Copy(&first));
-    assert_eq!(reader_hears(&mut reader, &answered), ReaderTold::Sent(Outcome::Copy(&last)));
-    assert_eq!(reader.time_out(), Outcome::Copy(&again));
-    assert_eq!(reader_hears(&mut reader, &answered), ReaderTold::Sent(Outcome::Delivered { copies: 1 }));
-    assert_eq!(reader.time_out(), Outcome::Nothing);
+    assert_eq!(reader.send(0x1B, &card()), Outcome::Copy(&first));
+    assert_eq!(reader_hears(&mut reader, &answered), ReaderTold::Copy(&last));
+    assert_eq!(reader.expire(), Outcome::Copy(&again));
+    assert_eq!(reader_hears(&mut reader, &answered), ReaderTold::Delivered { copies: 1 });
+    assert_eq!(reader.expire(), Outcome::Nothing);
 }
 
 /// If the first copy was lost, the marked one is the piece.
@@ -67,7 +67,7 @@ fn a_marked_copy_that_is_no_repeat_is_joined() {
     assert_eq!(hub_hears(&mut hub, &sent(&again)), whole);
     assert_eq!(hub_hears(&mut hub, &sent(&again)), HubTold::Repeated { answer: &ack });
     // A message gap forgets the last accepted packet.
-    assert_eq!(hub.hear(Event::MessageGap), HubTold::Nothing);
+    assert_eq!(hub.event(Event::MessageGap), HubTold::Nothing);
     assert_eq!(hub_hears(&mut hub, &sent(&again)), HubTold::Message { code: 0x1B, message: b"8", answer: &ack });
 }
 

@@ -81,20 +81,25 @@ impl End for Reader {
 
     fn hear(&mut self, event: Event, lines: &mut Lines) {
         let Reader { control, line, answers, message, answer, copy } = self;
-        let told = reader::hear(control, line, answers, message, answer, copy, event);
-        match told {
-            ReaderTold::Nothing | ReaderTold::Repeated { .. } => {}
-            ReaderTold::Refused { why, .. } => lines.refusal(why),
-            ReaderTold::Acted { beep, .. } => {
+        match reader::hear(control, line, answers, message, answer, copy, event) {
+            ReaderTold::Nothing => {}
+            ReaderTold::Repeated { answer } => lines.answer(answer),
+            ReaderTold::Refused { why, answer } => {
+                lines.refusal(why);
+                lines.answer(answer);
+            }
+            ReaderTold::Acted { beep, answer } => {
                 if let Some(beep) = beep {
                     lines.numbers(b'B', [beep.duration, beep.pitch, beep.count].map(usize::from));
                 }
                 let on = reader::switches(control).unwrap_or_default();
                 lines.numbers(b'G', [on.scanning, on.session, on.aim, on.led].map(usize::from));
+                lines.answer(answer);
             }
-            ReaderTold::Sent(outcome) => sent(outcome, lines),
+            ReaderTold::Copy(copy) => sent(Outcome::Copy(copy), lines),
+            ReaderTold::Delivered { copies } => sent(Outcome::Delivered { copies }, lines),
+            ReaderTold::Failed { copies } => sent(Outcome::Failed { copies }, lines),
         }
-        lines.answer(told.answer());
     }
 }
 

@@ -31,11 +31,11 @@ pub fn play(card: &[u8]) -> Played {
     let mut played = Played::default();
     let (mut reader, mut hub) = (Reader::new(), Hub::new());
     let mut answers = 0;
-    let mut copy = copied(reader.start(CODE_TYPE, card));
+    let mut copy = copied(reader.send(CODE_TYPE, card));
     while let Some(packet) = copy.take() {
         let mut answer = Vec::new();
         for event in events(&packet) {
-            let told = hub.hear(event);
+            let told = hub.event(event);
             answer.extend(told.answer());
             // Filed before the answer goes out: nothing here takes longer than the reader waits.
             if let HubTold::Message { message, .. } = told {
@@ -48,12 +48,12 @@ pub fn play(card: &[u8]) -> Played {
         answers += 1;
         let lost = answers == LOST;
         if lost {
-            copy = copied(reader.time_out());
+            copy = copied(reader.expire());
         } else {
             for event in events(&answer) {
-                match reader.hear(event) {
-                    ReaderTold::Sent(Outcome::Delivered { copies }) => played.delivered = Some(copies),
-                    ReaderTold::Sent(outcome) => copy = copied(outcome),
+                match reader.event(event) {
+                    ReaderTold::Copy(next) => copy = Some(next.to_vec()),
+                    ReaderTold::Delivered { copies } => played.delivered = Some(copies),
                     _ => {}
                 }
             }

@@ -1,0 +1,147 @@
+//! One name for one thing: the calls of the archive with their parameters in Rattle, C and Rust, the machines'
+//! functions in C and Rust, and one version. The sources are read as text.
+
+use std::collections::{BTreeMap, BTreeSet};
+
+use motikhund::constants::{FRAMER_CONTROL_SIZE, HUB_CONTROL_SIZE, READER_CONTROL_SIZE, SENDER_CONTROL_SIZE};
+use motikhund::{Reader, VERSION};
+
+const HEADER: &str = include_str!("../../../c/motikhund.h");
+const RATTLE: &str = include_str!("../../../../crates/motikhund/src/lib.rt");
+const RAW: &str = include_str!("../../src/raw.rs");
+const PACKET: &str = include_str!("../../src/packet.rs");
+
+/// Each machine: its name in C, its type in Rust, where that stands, and where its lent form does.
+const MACHINES: [(&str, &str, &str, &str); 4] = [
+    ("framer", "Framer", include_str!("../../src/framer.rs"), include_str!("../../src/lent/framer.rs")),
+    ("hub", "Hub", include_str!("../../src/hub.rs"), include_str!("../../src/lent/hub.rs")),
+    ("sender", "Sender", include_str!("../../src/sender.rs"), include_str!("../../src/lent/sender.rs")),
+    ("reader", "Reader", include_str!("../../src/reader.rs"), include_str!("../../src/lent/reader.rs")),
+];
+
+/// The text between two marks, without comments.
+fn part(text: &str, from: &str, to: &str) -> String {
+    let (_, rest) = text.split_once(from).expect(from);
+    let (part, _) = rest.split_once(to).unwrap_or((rest, ""));
+    part.lines().map(|line| line.split("//").next().unwrap_or_default()).collect::<Vec<_>>().join(" ")
+}
+
+/// Each `mk_..(..)` with the names of its parameters, which `name` finds in each of them.
+fn calls(text: &str, name: fn(&str) -> Vec<String>) -> BTreeMap<String, Vec<String>> {
+    let mut calls = BTreeMap::new();
+    for declared in text.split("mk_").skip(1) {
+        let (call, rest) = declared.split_once('(').expect("parameters");
+        let (parameters, _) = rest.split_once(')').expect("their end");
+        let parameters = parameters.split(',').map(str::trim).filter(|parameter| !parameter.is_empty());
+        let before = calls.insert(call.to_string(), parameters.flat_map(name).collect());
+        assert_eq!(before, None, "{call} twice");
+    }
+    calls
+}
+
+/// `uint8_t line[MK_LINE_SIZE]`, `const uint8_t *bytes`.
+fn in_c(parameter: &str) -> Vec<String> {
+    let name = parameter.split('[').next().unwrap_or_default();
+    vec![name.rsplit([' ', '*']).next().unwrap_or_default().to_string()]
+}
+
+/// `line: *mut [u8; LINE_SIZE]`.
+fn in_rust(parameter: &str) -> Vec<String> {
+    vec![parameter.split(':').next().unwrap_or_default().to_string()]
+}
+
+/// `bytes: &[u8]`, which is a pointer and a length outside.
+fn in_rattle(parameter: &str) -> Vec<String> {
+    let (name, kind) = parameter.split_once(": ").expect("a type");
+    let slice = kind.contains('[') && !kind.contains(';');
+    [Some(name.to_string()), slice.then(|| format!("{name}_len"))].into_iter().flatten().collect()
+}
+
+fn header_calls() -> BTreeMap<String, Vec<String>> {
+    calls(&part(HEADER, "// ---- the calls of the archive", "// ---- machines with their buffers"), in_c)
+}
+
+#[test]
+fn of_the_calls() {
+    let header = header_calls();
+    assert_eq!(header, calls(&part(RAW, "extern \"C\" {", "\n}"), in_rust));
+    let exported: String = RATTLE.split("pub extern \"C\" fn ").skip(1).map(|text| part(text, "", "ensures")).collect();
+    let rattle = calls(&exported, in_rattle);
+    assert!(rattle.len() > 18, "{rattle:?}");
+    for (call, parameters) in rattle {
+        assert_eq!(header.get(&call), Some(&parameters), "{call}");
+    }
+}
+
+/// Functions of a machine's type in Rust.
+fn functions(text: &str, of: &str) -> BTreeSet<String> {
+    let public = |line: &str| {
+        let rest = line.strip_prefix("    pub fn ").or(line.strip_prefix("    pub const fn "))?;
+        rest.split('(').next().map(str::to_string)
+    };
+    let (_, rest) = text.split_once(&format!("\nimpl {of} {{\n")).expect(of);
+    rest.lines().take_while(|line| *line != "}").filter_map(public).collect()
+}
+
+#[test]
+fn of_the_machines() {
+    let machines = part(HEADER, "// ---- machines with their buffers", "\n#undef");
+    let mut only_rust = Vec::new();
+    for (machine, of, text, _) in MACHINES {
+        let begin = format!("mk_{machine}_");
+        let c: BTreeSet<String> = machines
+            .split("static inline ")
+            .skip(1)
+            .filter_map(|text| text.split('(').next()?.split(' ').next_back()?.strip_prefix(&begin))
+            .map(|name| if name == "init" { "new" } else { name }.to_string())
+            .collect();
+        let rust = functions(text, of);
+        assert!(c.len() >= 2 && c.is_subset(&rust), "{machine}: in C {c:?}, in Rust {rust:?}");
+        only_rust.extend(rust.difference(&c).map(|name| format!("{of}::{name}")));
+    }
+    // What C reads in the struct or gets by a raw call.
+    assert_eq!(only_rust, ["Sender::idle", "Reader::control", "Reader::powered_up"]);
+}
+
+/// `mk_hub_hear` is `lent::hub::hear`, `mk_check` is `packet::check`. The short way is inside of those.
+#[test]
+fn of_the_lent_calls() {
+    let stands = |text: &str, name: &str| ["(", "<"].iter().any(|end| text.contains(&format!("\npub fn {name}{end}")));
+    let mut found = 0;
+    for call in header_calls().into_keys().filter(|call| call != "go_on") {
+        let place = MACHINES
+            .iter()
+            .find_map(|(machine, _, _, lent)| Some((*lent, call.strip_prefix(machine)?.strip_prefix('_')?)));
+        let (text, name) = place.unwrap_or((PACKET, &call));
+        assert!(stands(text, name), "mk_{call}");
+        found += 1;
+    }
+    assert!(found > 18);
+}
+
+fn defined(name: &str) -> &'static str {
+    let line = HEADER.lines().find_map(|line| line.strip_prefix(&format!("#define {name} ")));
+    line.expect(name).trim_matches('"')
+}
+
+#[test]
+fn of_the_version() {
+    assert_eq!(defined("MK_VERSION"), VERSION);
+    let number = VERSION.split('.').fold(0, |number, part| 100 * number + part.parse::<u32>().expect("a number"));
+    assert_eq!(defined("MK_VERSION_NUMBER"), number.to_string());
+}
+
+/// The version rises with a control value's layout: who changes a line of this table adds one with a new version.
+#[test]
+fn of_the_layout() {
+    let (version, sizes, defaults) = ("0.2.0", [9, 29, 35, 83], (26, 35, 44));
+    assert_eq!(VERSION, version);
+    assert_eq!([FRAMER_CONTROL_SIZE, HUB_CONTROL_SIZE, SENDER_CONTROL_SIZE, READER_CONTROL_SIZE], sizes);
+    let (present, permanent, switches) = defaults;
+    let mut on = [0; READER_CONTROL_SIZE];
+    for at in [present, permanent] {
+        on[at..at + 9].copy_from_slice(&[0, 10, 0, 20, 6, 4, 1, 0, 1]);
+    }
+    on[switches] = 1;
+    assert_eq!(Reader::new().control(), &on);
+}
