@@ -1,16 +1,14 @@
-//! The calls that are timed, in the shape in which a firmware makes them: numbers in, a number told, values and bytes
-//! in lent rooms. Both programs stand behind them.
+//! The calls that are timed, in the shape in which a firmware makes them. Three programs stand behind them: the proved
+//! library (proved.rs), the peer (peer.rs) and the second program (other.rs).
 
-pub const CHARACTER_GAP: u32 = 256;
-pub const MESSAGE_GAP: u32 = 257;
+pub use motikhund::Event;
 
 /// What a sender hears.
 pub const NAK_RESEND: u32 = 1;
 pub const ACK: u32 = 256;
 pub const TIME_OUT: u32 = 257;
 
-/// What is told.
-pub const ROOM_TOO_SMALL: u32 = 13;
+/// The numbers that are told: a refusal's, or one of these.
 pub const FOUND: u32 = 100;
 pub const WRITTEN: u32 = 101;
 pub const ADDED: u32 = 110;
@@ -21,11 +19,21 @@ pub const DELIVERED: u32 = 121;
 pub const FAILED: u32 = 122;
 pub const ACTED: u32 = 130;
 
-/// The rooms that are asked for.
-pub const HUB_ANSWER: usize = 7;
-pub const READER_ANSWER: usize = 25;
 pub const MESSAGE: usize = 4_096;
 pub const PACKET: usize = 257;
+pub const HUB_ANSWER: usize = 7;
+pub const READER_ANSWER: usize = 25;
+
+/// What a call brought, of whichever kind. What a call has none of is empty or 0.
+#[derive(Clone, Copy, Default, PartialEq)]
+pub struct Told<'a> {
+    pub number: u32,
+    /// The head that the check found; a message's code type; a beep; how often a message was resent.
+    pub values: [u8; 4],
+    /// What goes on the line: an answer, a copy, a packet that was built.
+    pub packet: &'a [u8],
+    pub message: &'a [u8],
+}
 
 /// A packet's fields, to build it.
 #[derive(Clone, Copy)]
@@ -37,25 +45,21 @@ pub struct Fields<'a> {
 }
 
 pub trait Packets {
-    fn check(&self, bytes: &[u8], head: &mut [usize; 4]) -> u32;
-    fn build(&self, room: &mut [u8], fields: Fields, size: &mut usize) -> u32;
+    fn new() -> Self;
+    fn check(&self, bytes: &[u8]) -> Told<'_>;
+    fn build(&mut self, fields: Fields) -> Told<'_>;
 }
 
-pub trait Hub {
+/// A hub or a reader, whose buffers are its own.
+pub trait Machine {
     fn new() -> Self;
     fn switch_on(&mut self);
-    fn hear(&mut self, answer: &mut [u8], message: &mut [u8], event: u32, values: &mut [usize; 3]) -> u32;
+    fn event(&mut self, event: Event) -> Told<'_>;
 }
 
 pub trait Sender {
     fn new() -> Self;
     fn idle(&mut self);
-    fn start(&mut self, room: &mut [u8], code: u8, message: &[u8], value: &mut usize) -> u32;
-    fn hear(&mut self, room: &mut [u8], heard: u32, value: &mut usize) -> u32;
-}
-
-pub trait Reader {
-    fn new() -> Self;
-    fn switch_on(&mut self);
-    fn hear(&mut self, answer: &mut [u8], copy: &mut [u8], event: u32, values: &mut [usize; 6]) -> u32;
+    fn start(&mut self, code: u8, message: &[u8]) -> Told<'_>;
+    fn hear(&mut self, heard: u32) -> Told<'_>;
 }

@@ -39,8 +39,8 @@ pub struct Timed<'a> {
 }
 
 impl<'a> Timed<'a> {
-    pub fn new(number: usize, pass: impl FnMut() -> usize + 'a) -> Timed<'a> {
-        let mut timed = Timed { pass: Box::new(pass), number, passes: 1, best: Duration::MAX };
+    pub fn new(number: usize, pass: Box<dyn FnMut() -> usize + 'a>) -> Timed<'a> {
+        let mut timed = Timed { pass, number, passes: 1, best: Duration::MAX };
         while timed.spell().0 < SPELL {
             timed.passes *= 2;
         }

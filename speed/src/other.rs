@@ -1,32 +1,40 @@
 //! The second program behind the same calls. None is inlined: a firmware's call of the library is not either.
 
 use second::framer::LineEvent;
-use second::hub::{self, Done};
+use second::hub::{self, Done, HubStep};
 use second::packet::{self, Packet, Refusal, CMD_ACK, CMD_NAK, HOST};
-use second::reader;
+use second::reader::{self, Step};
 use second::sender::{self, End, Sent};
 
-use crate::calls::{self, Fields};
-use crate::calls::{ACK, CHARACTER_GAP, HUB_ANSWER, MESSAGE, PACKET, READER_ANSWER, TIME_OUT};
-use crate::calls::{ACTED, ADDED, COPY, DELIVERED, FAILED, FOUND, HANDED_OUT, REPEATED, ROOM_TOO_SMALL, WRITTEN};
+use crate::calls::{self, Event, Fields, Told, ACK, HUB_ANSWER, MESSAGE, PACKET, READER_ANSWER, TIME_OUT};
+use crate::calls::{ACTED, ADDED, COPY, DELIVERED, FAILED, FOUND, HANDED_OUT, REPEATED, WRITTEN};
 
-pub struct Packets;
+pub struct Packets(pub [u8; PACKET]);
 
-pub struct Hub(hub::Hub);
+pub struct Hub {
+    pub hub: hub::Hub,
+    pub answer: [u8; HUB_ANSWER],
+    pub message: [u8; MESSAGE],
+}
 
 pub struct Sender {
     sender: sender::Sender,
+    copy: [u8; PACKET],
     /// The host's answers by the number heard, so that none has to be made for the call.
     answers: Vec<Packet>,
 }
 
-pub struct Reader(reader::Reader);
+pub struct Reader {
+    pub reader: reader::Reader,
+    pub answer: [u8; READER_ANSWER],
+    pub copy: [u8; PACKET],
+}
 
-fn event_of(event: u32) -> LineEvent {
+fn event_of(event: Event) -> LineEvent {
     match event {
-        0..=255 => LineEvent::Byte(event as u8),
-        CHARACTER_GAP => LineEvent::Gap,
-        _ => LineEvent::MessageGap,
+        Event::Byte(byte) => LineEvent::Byte(byte),
+        Event::CharacterGap => LineEvent::Gap,
+        Event::MessageGap => LineEvent::MessageGap,
     }
 }
 
@@ -34,85 +42,80 @@ fn number(refusal: Refusal) -> u32 {
     refusal.number() as u32
 }
 
-/// Writes the bytes at the front of the room and gives their number.
-fn put(room: &mut [u8], bytes: &[u8]) -> usize {
-    room[..bytes.len()].copy_from_slice(bytes);
-    bytes.len()
+fn refused(refusal: Refusal) -> Told<'static> {
+    Told { number: number(refusal), ..Told::default() }
+}
+
+/// Writes the bytes at the front of the room and gives them there; what is behind them stays.
+fn put<'a>(room: &'a mut [u8], bytes: &[u8]) -> &'a [u8] {
+    let front = &mut room[..bytes.len()];
+    front.copy_from_slice(bytes);
+    front
 }
 
 impl calls::Packets for Packets {
+    fn new() -> Packets {
+        Packets([0; PACKET])
+    }
+
     #[inline(never)]
-    fn check(&self, bytes: &[u8], head: &mut [usize; 4]) -> u32 {
+    fn check(&self, bytes: &[u8]) -> Told<'_> {
         match packet::check(bytes) {
             Ok(packet) => {
-                *head = [0, 1, 2, 3].map(|at: usize| usize::from(packet.bytes()[at]));
-                FOUND
+                let values = [0, 1, 2, 3].map(|at: usize| packet.bytes()[at]);
+                Told { number: FOUND, values, ..Told::default() }
             }
-            Err(refusal) => {
-                *head = [0; 4];
-                number(refusal)
-            }
+            Err(refusal) => refused(refusal),
         }
     }
 
     #[inline(never)]
-    fn build(&self, room: &mut [u8], fields: Fields, size: &mut usize) -> u32 {
-        match packet::build(room, fields.opcode, fields.source, fields.status, fields.data) {
-            Ok(written) => {
-                *size = written;
-                WRITTEN
-            }
-            Err(refusal) => {
-                *size = 0;
-                number(refusal)
-            }
+    fn build(&mut self, Fields { opcode, source, status, data }: Fields) -> Told<'_> {
+        match packet::build(&mut self.0, opcode, source, status, data) {
+            Ok(size) => Told { number: WRITTEN, packet: &self.0[..size], ..Told::default() },
+            Err(refusal) => refused(refusal),
         }
     }
 }
 
-impl calls::Hub for Hub {
+impl calls::Machine for Hub {
     fn new() -> Hub {
-        Hub(hub::Hub::default())
+        Hub { hub: hub::Hub::default(), answer: [0; HUB_ANSWER], message: [0; MESSAGE] }
     }
 
     fn switch_on(&mut self) {
-        self.0 = hub::Hub::default();
+        self.hub = hub::Hub::default();
     }
 
     #[inline(never)]
-    fn hear(&mut self, answer: &mut [u8], message: &mut [u8], event: u32, values: &mut [usize; 3]) -> u32 {
-        *values = [0; 3];
-        if answer.len() < HUB_ANSWER || message.len() < MESSAGE {
-            return ROOM_TOO_SMALL;
-        }
-        let step = self.0.take(event_of(event));
-        if let Some(bytes) = step.answer() {
-            values[0] = put(answer, &bytes);
-        }
+    fn event(&mut self, event: Event) -> Told<'_> {
+        let step: HubStep = self.hub.take(event_of(event));
+        let answer = step.answer();
+        let packet = answer.map_or(&[][..], |answer| put(&mut self.answer, &answer));
         match step.done {
-            Done::Nothing | Done::Ignored => 0,
-            Done::Refused(refusal) => number(refusal),
-            Done::Repeated => REPEATED,
-            Done::Added => ADDED,
-            Done::HandedOut(joined) => {
-                values[1] = joined.code_type.into();
-                values[2] = put(message, &joined.bytes);
-                HANDED_OUT
-            }
+            Done::Nothing | Done::Ignored => Told::default(),
+            Done::Refused(refusal) => Told { number: number(refusal), packet, ..Told::default() },
+            Done::Repeated => Told { number: REPEATED, packet, ..Told::default() },
+            Done::Added => Told { number: ADDED, packet, ..Told::default() },
+            Done::HandedOut(joined) => Told {
+                number: HANDED_OUT,
+                values: [joined.code_type, 0, 0, 0],
+                packet,
+                message: put(&mut self.message, &joined.bytes),
+            },
         }
     }
 }
 
 /// A copy stands in the room, or a message has ended.
-fn told(sent: Sent, room: &mut [u8], value: &mut usize) -> u32 {
-    let (told, with) = match sent {
-        Sent::Nothing => (0, 0),
-        Sent::Copy(bytes) => (COPY, put(room, &bytes)),
-        Sent::Ended(End::Delivered(copies)) => (DELIVERED, copies),
-        Sent::Ended(End::Failed(copies)) => (FAILED, copies),
-    };
-    *value = with;
-    told
+fn sent(sent: Sent, room: &mut [u8]) -> Told<'_> {
+    let ended = |number, copies: usize| Told { number, values: [copies as u8, 0, 0, 0], ..Told::default() };
+    match sent {
+        Sent::Nothing => Told::default(),
+        Sent::Copy(bytes) => Told { number: COPY, packet: put(room, &bytes), ..Told::default() },
+        Sent::Ended(End::Delivered(copies)) => ended(DELIVERED, copies),
+        Sent::Ended(End::Failed(copies)) => ended(FAILED, copies),
+    }
 }
 
 impl calls::Sender for Sender {
@@ -120,7 +123,7 @@ impl calls::Sender for Sender {
         let nak = |cause| packet::lay_out(CMD_NAK, HOST, 0, &[cause]);
         let bytes = (0..=255).map(nak).chain([packet::lay_out(CMD_ACK, HOST, 0, &[])]);
         let answers = bytes.map(|bytes| packet::check(&bytes).expect("a packet just laid out")).collect();
-        Sender { sender: sender::Sender::default(), answers }
+        Sender { sender: sender::Sender::default(), copy: [0; PACKET], answers }
     }
 
     fn idle(&mut self) {
@@ -128,65 +131,68 @@ impl calls::Sender for Sender {
     }
 
     #[inline(never)]
-    fn start(&mut self, room: &mut [u8], code: u8, message: &[u8], value: &mut usize) -> u32 {
-        *value = 0;
-        if room.len() < PACKET {
-            return ROOM_TOO_SMALL;
-        }
+    fn start(&mut self, code: u8, message: &[u8]) -> Told<'_> {
         match self.sender.start(code, message) {
-            Ok(copy) => told(Sent::Copy(copy), room, value),
-            Err(refusal) => number(refusal),
+            Ok(copy) => sent(Sent::Copy(copy), &mut self.copy),
+            Err(refusal) => refused(refusal),
         }
     }
 
     #[inline(never)]
-    fn hear(&mut self, room: &mut [u8], heard: u32, value: &mut usize) -> u32 {
-        *value = 0;
-        if room.len() < PACKET {
-            return ROOM_TOO_SMALL;
-        }
-        let sent = match heard {
+    fn hear(&mut self, heard: u32) -> Told<'_> {
+        let brought = match heard {
             0..=ACK => self.sender.answer(&self.answers[heard as usize]),
             TIME_OUT => self.sender.time_out(),
             _ => Sent::Nothing,
         };
-        told(sent, room, value)
+        sent(brought, &mut self.copy)
     }
 }
 
-impl calls::Reader for Reader {
-    fn new() -> Reader {
-        Reader(reader::Reader::new())
-    }
-
-    fn switch_on(&mut self) {
-        self.0 = reader::Reader::new();
-    }
-
-    #[inline(never)]
-    fn hear(&mut self, answer: &mut [u8], copy: &mut [u8], event: u32, values: &mut [usize; 6]) -> u32 {
-        *values = [0; 6];
-        if answer.len() < READER_ANSWER || copy.len() < PACKET {
-            return ROOM_TOO_SMALL;
-        }
-        let step = self.0.take(event_of(event));
-        if let Some(bytes) = &step.answer {
-            values[0] = put(answer, bytes);
-        }
-        if let Some(beep) = step.beep {
-            values[1..4].copy_from_slice(&beep.map(usize::from));
-        }
-        let sent = match (step.copy, step.end) {
+impl Reader {
+    fn told(&mut self, step: Step) -> Told<'_> {
+        let brought = match (step.copy, step.end) {
             (Some(bytes), _) => Sent::Copy(bytes),
             (None, Some(end)) => Sent::Ended(end),
             (None, None) => Sent::Nothing,
         };
-        values[4] = told(sent, copy, &mut values[5]) as usize;
-        match step.refusal {
+        if brought != Sent::Nothing {
+            return sent(brought, &mut self.copy);
+        }
+        let number = match step.refusal {
             Some(refusal) => number(refusal),
             None if step.repeated => REPEATED,
             None if step.switches.is_some() => ACTED,
             None => 0,
-        }
+        };
+        let values = step.beep.map_or([0; 4], |[duration, pitch, count]| [duration, pitch, count, 0]);
+        let packet = step.answer.map_or(&[][..], |answer| put(&mut self.answer, &answer));
+        Told { number, values, packet, message: &[] }
+    }
+
+    pub fn start(&mut self, code: u8, message: &[u8]) -> Told<'_> {
+        let step = self.reader.start(code, message);
+        self.told(step)
+    }
+
+    pub fn time_out(&mut self) -> Told<'_> {
+        let step = self.reader.time_out();
+        self.told(step)
+    }
+}
+
+impl calls::Machine for Reader {
+    fn new() -> Reader {
+        Reader { reader: reader::Reader::new(), answer: [0; READER_ANSWER], copy: [0; PACKET] }
+    }
+
+    fn switch_on(&mut self) {
+        self.reader = reader::Reader::new();
+    }
+
+    #[inline(never)]
+    fn event(&mut self, event: Event) -> Told<'_> {
+        let step = self.reader.take(event_of(event));
+        self.told(step)
     }
 }

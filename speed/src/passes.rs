@@ -1,182 +1,233 @@
-//! One pass of each kind of work: the calls that a firmware makes, on rooms that it lends, the same for both programs.
+//! One pass of each kind of work: the calls that a firmware makes, the same for all programs. Passes of hub and reader
+//! are here to be compared; those that are timed and counted are made in C (passes.c), but for the second program's and
+//! the rows that are by the crate.
 
-use std::hint::black_box;
-use std::slice;
+use std::arch::asm;
 
 use second::packet::{CHECKSUM, DECODE_DATA, HEADER, READER};
 
-use crate::calls::{self, Fields, DELIVERED, HUB_ANSWER, MESSAGE, PACKET, READER_ANSWER};
+use crate::calls::{Event, Fields, Machine, Packets, Sender, Told, PACKET};
 use crate::streams::{Errand, Stream};
 
-// ---- the rooms that are lent, and what a call brought in them
-
-pub struct Brought<'a> {
-    pub values: &'a [usize],
-    pub packet: &'a [u8],
-    pub message: &'a [u8],
-}
-
-pub trait Rooms {
-    fn new() -> Self;
-    fn brought(&self, told: u32) -> Brought<'_>;
-}
-
-pub struct HubRooms {
-    answer: Vec<u8>,
-    message: Vec<u8>,
-    values: [usize; 3],
-}
-
-impl Rooms for HubRooms {
-    fn new() -> HubRooms {
-        HubRooms { answer: vec![0; HUB_ANSWER], message: vec![0; MESSAGE], values: [0; 3] }
-    }
-
-    fn brought(&self, _: u32) -> Brought<'_> {
-        let [answer, _, message] = self.values;
-        Brought { values: &self.values, packet: &self.answer[..answer], message: &self.message[..message] }
-    }
-}
-
-pub struct ReaderRooms {
-    answer: Vec<u8>,
-    copy: Vec<u8>,
-    values: [usize; 6],
-}
-
-impl Rooms for ReaderRooms {
-    fn new() -> ReaderRooms {
-        ReaderRooms { answer: vec![0; READER_ANSWER], copy: vec![0; PACKET], values: [0; 6] }
-    }
-
-    fn brought(&self, _: u32) -> Brought<'_> {
-        Brought { values: &self.values, packet: &self.answer[..self.values[0]], message: &[] }
-    }
-}
-
-/// Of a sender and of building.
-pub struct PacketRoom {
-    room: Vec<u8>,
-    value: usize,
-}
-
-impl Rooms for PacketRoom {
-    fn new() -> PacketRoom {
-        PacketRoom { room: vec![0; PACKET], value: 0 }
-    }
-
-    fn brought(&self, told: u32) -> Brought<'_> {
-        let size = if told == DELIVERED { 0 } else { self.value };
-        Brought { values: slice::from_ref(&self.value), packet: &self.room[..size], message: &[] }
-    }
-}
-
-/// Of the check.
-pub struct Head([usize; 4]);
-
-impl Rooms for Head {
-    fn new() -> Head {
-        Head([0; 4])
-    }
-
-    fn brought(&self, _: u32) -> Brought<'_> {
-        Brought { values: &self.0, packet: &[], message: &[] }
-    }
-}
-
-// ---- one pass of each kind of work
-
-/// A program's machine with its input and the rooms lent to it.
-pub struct Job<'a, I: ?Sized, M, R> {
-    pub input: &'a I,
-    pub machine: M,
-    pub rooms: R,
-}
-
 pub trait Work {
-    type Rooms: Rooms;
-    /// All calls of one pass, from the same state each time. `see` is shown the number told and the rooms.
-    fn pass(&mut self, see: impl FnMut(u32, &Self::Rooms));
+    /// All calls of one pass, from the same state each time. `see` is shown what each brought.
+    fn pass(&mut self, see: impl FnMut(Told));
+    /// Looks at what a firmware looks at, and no more: this is timed and counted with the call.
+    fn look(told: Told) -> usize;
+    /// What the call with this number in a pass is given.
+    fn describe(&self, call: usize) -> String;
 }
 
-impl<H: calls::Hub> Work for Job<'_, Stream, H, HubRooms> {
-    type Rooms = HubRooms;
+/// Of a machine: whether anything was told. Only then there is something to send or to file, by a call.
+#[inline(always)]
+fn look_first(Told { number, values, packet, message }: Told) -> usize {
+    if number == 0 {
+        return 0;
+    }
+    heed(number, values, packet, message)
+}
 
-    fn pass(&mut self, mut see: impl FnMut(u32, &HubRooms)) {
-        let Job { input, machine, rooms } = self;
+/// Takes all in registers: what is told need not stand in memory for it.
+#[inline(never)]
+fn heed(number: u32, values: [u8; 4], packet: &[u8], message: &[u8]) -> usize {
+    number as usize + packet.len() + message.len() + values.into_iter().map(usize::from).sum::<usize>()
+}
+
+/// Events at a hub or a reader.
+pub struct Events<'a, M>(pub &'a Stream, pub M);
+
+impl<M: Machine> Work for Events<'_, M> {
+    fn pass(&mut self, mut see: impl FnMut(Told)) {
+        let Events(stream, machine) = self;
         machine.switch_on();
-        input.events(|event| {
-            let told = machine.hear(&mut rooms.answer, &mut rooms.message, event, &mut rooms.values);
-            see(told, rooms);
-        });
+        stream.events(|event| see(machine.event(event)));
+    }
+
+    #[inline(always)]
+    fn look(told: Told) -> usize {
+        look_first(told)
+    }
+
+    fn describe(&self, call: usize) -> String {
+        let mut events = Vec::new();
+        self.0.events(|event| events.push(event));
+        format!("{:02X?}", events[call])
     }
 }
 
-impl<R: calls::Reader> Work for Job<'_, Stream, R, ReaderRooms> {
-    type Rooms = ReaderRooms;
+/// Messages of a sender, with what it hears of each.
+pub struct Errands<'a, S>(pub &'a [Errand], pub S);
 
-    fn pass(&mut self, mut see: impl FnMut(u32, &ReaderRooms)) {
-        let Job { input, machine, rooms } = self;
-        machine.switch_on();
-        input.events(|event| {
-            let told = machine.hear(&mut rooms.answer, &mut rooms.copy, event, &mut rooms.values);
-            see(told, rooms);
-        });
-    }
-}
-
-impl<S: calls::Sender> Work for Job<'_, [Errand], S, PacketRoom> {
-    type Rooms = PacketRoom;
-
-    fn pass(&mut self, mut see: impl FnMut(u32, &PacketRoom)) {
-        let Job { input, machine, rooms } = self;
-        machine.idle();
-        for errand in input.iter() {
-            let told = machine.start(&mut rooms.room, errand.code, &errand.message, &mut rooms.value);
-            see(told, rooms);
+impl<S: Sender> Work for Errands<'_, S> {
+    fn pass(&mut self, mut see: impl FnMut(Told)) {
+        let Errands(errands, sender) = self;
+        sender.idle();
+        for errand in errands.iter() {
+            see(sender.start(errand.code, &errand.message));
             for heard in &errand.heard {
-                let told = machine.hear(&mut rooms.room, *heard, &mut rooms.value);
-                see(told, rooms);
+                see(sender.hear(*heard));
             }
         }
     }
-}
 
-impl<P: calls::Packets> Work for Job<'_, Stream, P, Head> {
-    type Rooms = Head;
+    #[inline(always)]
+    fn look(told: Told) -> usize {
+        look_first(told)
+    }
 
-    fn pass(&mut self, mut see: impl FnMut(u32, &Head)) {
-        for (packet, _) in self.input.parts() {
-            let told = self.machine.check(packet, &mut self.rooms.0);
-            see(told, &self.rooms);
-        }
+    fn describe(&self, call: usize) -> String {
+        let calls = self.0.iter().flat_map(|errand| [None].into_iter().chain(errand.heard.iter().map(Some)));
+        calls
+            .map(|heard| heard.map_or("a start".to_string(), |heard| format!("heard {heard}")))
+            .nth(call)
+            .expect("a call")
     }
 }
 
-/// Builds the packets that the check is given.
-impl<P: calls::Packets> Work for Job<'_, Stream, P, PacketRoom> {
-    type Rooms = PacketRoom;
+/// Packets to be checked.
+pub struct Checks<'a, P>(pub &'a Stream, pub P);
 
-    fn pass(&mut self, mut see: impl FnMut(u32, &PacketRoom)) {
-        for (packet, _) in self.input.parts() {
-            let data = &packet[HEADER..packet.len() - CHECKSUM];
-            let fields = Fields { opcode: DECODE_DATA, source: READER, status: 0, data };
-            let told = self.machine.build(&mut self.rooms.room, fields, &mut self.rooms.value);
-            see(told, &self.rooms);
+impl<P: Packets> Work for Checks<'_, P> {
+    fn pass(&mut self, mut see: impl FnMut(Told)) {
+        for (packet, _) in self.0.parts() {
+            see(self.1.check(packet));
         }
     }
+
+    #[inline(always)]
+    fn look(told: Told) -> usize {
+        told.number as usize
+    }
+
+    fn describe(&self, call: usize) -> String {
+        format!("{:02X?}", self.0.parts().nth(call).expect("a part").0)
+    }
+}
+
+/// The same packets to be built.
+pub struct Builds<'a, P>(pub &'a Stream, pub P);
+
+fn body_of(packet: &[u8]) -> &[u8] {
+    &packet[..packet.len() - CHECKSUM]
+}
+
+fn data_of(packet: &[u8]) -> &[u8] {
+    &body_of(packet)[HEADER..]
+}
+
+impl<P: Packets> Work for Builds<'_, P> {
+    fn pass(&mut self, mut see: impl FnMut(Told)) {
+        for (packet, _) in self.0.parts() {
+            see(self.1.build(Fields { opcode: DECODE_DATA, source: READER, status: 0, data: data_of(packet) }));
+        }
+    }
+
+    #[inline(always)]
+    fn look(told: Told) -> usize {
+        told.packet.len()
+    }
+
+    fn describe(&self, call: usize) -> String {
+        format!("{:02X?}", self.0.parts().nth(call).expect("a part").0)
+    }
+}
+
+// ---- what is done without a program: the least that the same bytes cost
+//
+// Both are compiled as the library is, by LLVM with all optimisation for any x86-64. The sum of a packet's body fits 16
+// bits, and in these the compiler sums with vector instructions.
+
+#[inline(always)]
+fn sum(bytes: &[u8]) -> u16 {
+    bytes.iter().fold(0, |total: u16, byte| total.wrapping_add((*byte).into()))
 }
 
 #[inline(never)]
-fn bare_sum(bytes: &[u8]) -> usize {
-    let mut total = 0;
-    for byte in bytes {
-        total += usize::from(*byte);
-    }
-    total
+fn bare_sum(bytes: &[u8]) -> u16 {
+    sum(bytes)
 }
 
-/// Sums the same bytes, part by part, and does no more.
+#[inline(never)]
+fn bare_copy_and_sum(room: &mut [u8], bytes: &[u8]) -> u16 {
+    let room = &mut room[..bytes.len()];
+    room.copy_from_slice(bytes);
+    sum(room)
+}
+
+/// Sums the same bytes, part by part.
 pub fn bare_pass(stream: &Stream) -> usize {
-    stream.parts().map(|(part, _)| bare_sum(black_box(part))).sum()
+    stream.parts().map(|(part, _)| usize::from(bare_sum(part))).sum()
+}
+
+/// Sums the bodies of packets, as the check does.
+pub fn bare_check(stream: &Stream) -> usize {
+    stream.parts().map(|(packet, _)| usize::from(bare_sum(body_of(packet)))).sum()
+}
+
+/// Copies bodies and sums them there, as building does.
+pub fn bare_build(stream: &Stream) -> usize {
+    let mut room = [0; PACKET];
+    stream.parts().map(|(packet, _)| usize::from(bare_copy_and_sum(&mut room, body_of(packet)))).sum()
+}
+
+/// No program at all: a pass of it is the loop around the calls, which is no part of them.
+pub struct Nothing;
+
+/// Has a number in a register, as an argument would be, and does nothing with it.
+#[inline(always)]
+fn ignored(number: usize) {
+    // SAFETY: there is no instruction.
+    unsafe { asm!("/* {0} */", in(reg) number, options(nomem, nostack, preserves_flags)) };
+}
+
+impl Machine for Nothing {
+    fn new() -> Nothing {
+        Nothing
+    }
+
+    fn switch_on(&mut self) {}
+
+    #[inline(always)]
+    fn event(&mut self, event: Event) -> Told<'_> {
+        ignored(event.number() as usize);
+        Told::default()
+    }
+}
+
+impl Sender for Nothing {
+    fn new() -> Nothing {
+        Nothing
+    }
+
+    fn idle(&mut self) {}
+
+    #[inline(always)]
+    fn start(&mut self, _: u8, message: &[u8]) -> Told<'_> {
+        ignored(message.len());
+        Told::default()
+    }
+
+    #[inline(always)]
+    fn hear(&mut self, heard: u32) -> Told<'_> {
+        ignored(heard as usize);
+        Told::default()
+    }
+}
+
+impl Packets for Nothing {
+    fn new() -> Nothing {
+        Nothing
+    }
+
+    #[inline(always)]
+    fn check(&self, bytes: &[u8]) -> Told<'_> {
+        ignored(bytes.len());
+        Told::default()
+    }
+
+    #[inline(always)]
+    fn build(&mut self, fields: Fields) -> Told<'_> {
+        ignored(fields.data.len());
+        Told::default()
+    }
 }

@@ -1,23 +1,24 @@
-//! Every call of the library, on inputs that reach its paths, for the measure of its stack.
+//! Every call of the library, and the peer's, on inputs that reach their paths, for the measure of their stack.
 
+use motikhund::constants::{FRAMER_CONTROL_SIZE, HEAD_VALUES, HUB_CONTROL_SIZE, HUB_VALUES, LINE_SIZE};
+use motikhund::constants::{READER_CONTROL_SIZE, READER_VALUES, SENDER_CONTROL_SIZE, SWITCH_VALUES};
 use motikhund::raw::*;
 use second::packet::*;
 use second::reader::ALL;
 use second::sender::PIECE;
 
-use crate::calls::{Hub, Reader, Sender, ACK, CHARACTER_GAP, HUB_ANSWER, MESSAGE, MESSAGE_GAP, NAK_RESEND};
-use crate::calls::{PACKET, READER_ANSWER, TIME_OUT};
-use crate::proved;
-use crate::stack::{calibrate, measured, Depths};
+use crate::calls::{Event, Machine, Sender, ACK, HUB_ANSWER, MESSAGE, NAK_RESEND, PACKET, READER_ANSWER, TIME_OUT};
+use crate::peer::{self, *};
+use crate::stack::{calibrate, measured, Depths, Tells};
 use crate::streams::{self, Dice, Stream};
 
 /// Refusals 1, 2 and 3.
 fn add_broken(stream: &mut Stream, opcode: u8, source: u8) {
     let mut packet = lay_out(opcode, source, 0, &[0; PIECE + 1]);
     *packet.last_mut().expect("a packet has bytes") ^= 1;
-    stream.add(&packet, CHARACTER_GAP);
-    stream.add(&[3], CHARACTER_GAP);
-    stream.add(&[4, opcode], MESSAGE_GAP);
+    stream.add(&packet, Event::CharacterGap);
+    stream.add(&[3], Event::CharacterGap);
+    stream.add(&[4, opcode], Event::MessageGap);
 }
 
 /// What a hub and a framer hear.
@@ -25,7 +26,7 @@ fn from_reader() -> Stream {
     let dice = &mut Dice::new(2);
     let message = dice.bytes(MESSAGE);
     let mut stream = streams::garbage(dice, MESSAGE);
-    stream.add(&[], MESSAGE_GAP);
+    stream.add(&[], Event::MessageGap);
     stream.add_message(1, &message);
     stream.add_packet(DECODE_DATA, READER, 0, &[2]);
     stream.add_packet(DECODE_DATA, READER, MARK, &[2]);
@@ -39,7 +40,7 @@ fn from_reader() -> Stream {
     stream.add_packet(DECODE_DATA, READER, MORE, &message[..PIECE]);
     stream.add_packet(DECODE_DATA, READER, MORE, &[!message[0]]);
     stream.add_packet(DECODE_DATA, READER, MORE, &[!message[0]]);
-    stream.add(&[], MESSAGE_GAP);
+    stream.add(&[], Event::MessageGap);
     for _ in 0..=MESSAGE.div_ceil(PIECE) {
         stream.add_packet(DECODE_DATA, READER, MORE, &message[..PIECE + 1]);
     }
@@ -74,10 +75,23 @@ fn from_host() -> Stream {
     stream
 }
 
+macro_rules! tells {
+    ($($told:ty),*) => {
+        $(impl Tells for $told {
+            fn number(&self) -> u32 {
+                self.number.into()
+            }
+        })*
+    };
+}
+
+tells!(Checked, Built, CHubTold, CSent, CReaderTold);
+
 fn packets(depths: &mut Depths, stream: &Stream) {
-    let (mut room, mut head, mut size) = ([0; PACKET], [0; 4], 0);
+    let (mut room, mut head, mut size) = ([0; PACKET], [0; HEAD_VALUES], 0);
     for (part, _) in stream.parts() {
         measured!(depths, mk_check(part.as_ptr(), part.len(), &mut head));
+        measured!(depths, peer_check(part.as_ptr(), part.len()));
     }
     for length in [room.len(), room.len() - 1] {
         for (source, status, carried) in [(READER, 0, MOST_DATA), (HOST, !0, 0), (!0, 0, 0), (HOST, 0, PACKET)] {
@@ -86,6 +100,7 @@ fn packets(depths: &mut Depths, stream: &Stream) {
                 depths,
                 mk_build(room.as_mut_ptr(), length, BEEP, source, status, data.as_ptr(), carried, &mut size)
             );
+            measured!(depths, peer_build(room.as_mut_ptr(), length, BEEP, source, status, data.as_ptr(), carried));
         }
     }
     for source in [HOST, !0] {
@@ -100,37 +115,49 @@ fn packets(depths: &mut Depths, stream: &Stream) {
 }
 
 fn framer(depths: &mut Depths, stream: &Stream) {
-    let (mut control, mut line, mut head) = ([0; 9], [0; PACKET], [0; 4]);
+    let (mut control, mut line, mut head) = ([0; FRAMER_CONTROL_SIZE], [0; PACKET], [0; HEAD_VALUES]);
     measured!(depths, mk_framer_idle(control.as_mut_ptr(), control.len()));
     stream.events(|event| {
         let (control, line) = (&mut control[..], &mut line[..]);
         measured!(
             depths,
-            mk_framer_hear(control.as_mut_ptr(), control.len(), line.as_mut_ptr(), line.len(), event, &mut head)
+            mk_framer_hear(
+                control.as_mut_ptr(),
+                control.len(),
+                line.as_mut_ptr(),
+                line.len(),
+                event.number(),
+                &mut head
+            )
         );
     });
 }
 
 fn hub(depths: &mut Depths, stream: &Stream) {
-    let mut hub = proved::Hub::new();
-    let (mut answer, mut message, mut values) = ([0; HUB_ANSWER], [0; MESSAGE], [0; 3]);
-    measured!(depths, mk_hub_on(hub.control.as_mut_ptr(), hub.control.len()));
+    let mut control = [0; HUB_CONTROL_SIZE];
+    let (mut line, mut gather) = ([0; LINE_SIZE], [0; MESSAGE]);
+    let (mut answer, mut message, mut values) = ([0; HUB_ANSWER], [0; MESSAGE], [0; HUB_VALUES]);
+    measured!(depths, mk_hub_on(control.as_mut_ptr(), control.len()));
+    let mut peer = peer::Hub::new();
     stream.events(|event| {
+        let mut front = *control.first_chunk().expect("a control value has a front");
+        measured!(depths, mk_go_on(&mut front, &mut line.clone(), event.number()));
         measured!(
             depths,
             mk_hub_hear(
-                hub.control.as_mut_ptr(),
-                hub.control.len(),
-                &mut hub.line,
-                &mut hub.gather,
+                control.as_mut_ptr(),
+                control.len(),
+                &mut line,
+                &mut gather,
                 answer.as_mut_ptr(),
                 answer.len(),
                 message.as_mut_ptr(),
                 message.len(),
-                event,
+                event.number(),
                 &mut values,
             )
         );
+        measured!(depths, peer_hub_event(&mut *peer.0, event.number()));
     });
 }
 
@@ -147,18 +174,19 @@ fn errands() -> [(usize, Vec<u32>); 5] {
 }
 
 fn sender(depths: &mut Depths) {
-    let mut sender = proved::Sender::new();
+    let (mut control, mut buffer) = ([0; SENDER_CONTROL_SIZE], [0; MESSAGE]);
     let (mut room, mut value) = ([0; PACKET], 0);
     let message = [0; MESSAGE + 1];
-    measured!(depths, mk_sender_idle(sender.control.as_mut_ptr(), sender.control.len(), true));
+    measured!(depths, mk_sender_idle(control.as_mut_ptr(), control.len(), true));
+    let mut peer = peer::Sender::new();
     for (size, heard) in errands() {
         for _ in 0..2 {
             measured!(
                 depths,
                 mk_sender_start(
-                    sender.control.as_mut_ptr(),
-                    sender.control.len(),
-                    &mut sender.buffer,
+                    control.as_mut_ptr(),
+                    control.len(),
+                    &mut buffer,
                     room.as_mut_ptr(),
                     room.len(),
                     0,
@@ -167,67 +195,88 @@ fn sender(depths: &mut Depths) {
                     &mut value,
                 )
             );
-            measured!(depths, mk_sender_waits(sender.control.as_ptr(), sender.control.len()));
+            measured!(depths, peer_sender_send(&mut *peer.0, 0, message.as_ptr(), size));
+            measured!(depths, mk_sender_waits(control.as_ptr(), control.len()));
         }
         for heard in heard {
             measured!(
                 depths,
                 mk_sender_hear(
-                    sender.control.as_mut_ptr(),
-                    sender.control.len(),
-                    &sender.buffer,
+                    control.as_mut_ptr(),
+                    control.len(),
+                    &buffer,
                     room.as_mut_ptr(),
                     room.len(),
                     heard,
                     &mut value,
                 )
             );
+            measured!(depths, peer_sender_heard(&mut *peer.0, heard));
         }
-        measured!(depths, mk_sender_waits(sender.control.as_ptr(), sender.control.len()));
+        measured!(depths, mk_sender_waits(control.as_ptr(), control.len()));
     }
 }
 
-/// The reader's whole end, with the rooms lent to it.
+/// The reader's whole end, with the rooms lent to it, and the peer's beside it.
 struct End {
-    reader: proved::Reader,
+    control: [u8; READER_CONTROL_SIZE],
+    line: [u8; LINE_SIZE],
+    answers: [u8; READER_ANSWER],
+    message: [u8; MESSAGE],
     answer: [u8; READER_ANSWER],
     copy: [u8; PACKET],
-    values: [usize; 6],
+    values: [usize; READER_VALUES],
     value: usize,
+    peer: peer::Reader,
 }
 
 impl End {
+    fn new() -> End {
+        End {
+            control: [0; READER_CONTROL_SIZE],
+            line: [0; LINE_SIZE],
+            answers: [0; READER_ANSWER],
+            message: [0; MESSAGE],
+            answer: [0; READER_ANSWER],
+            copy: [0; PACKET],
+            values: [0; READER_VALUES],
+            value: 0,
+            peer: peer::Reader::new(),
+        }
+    }
+
     fn hear(&mut self, depths: &mut Depths, stream: &Stream) {
-        let End { reader, answer, copy, values, .. } = self;
+        let End { control, line, answers, message, answer, copy, values, peer, .. } = self;
         stream.events(|event| {
             measured!(
                 depths,
                 mk_reader_hear(
-                    reader.control.as_mut_ptr(),
-                    reader.control.len(),
-                    &mut reader.line,
-                    &mut reader.answers,
-                    &reader.message,
+                    control.as_mut_ptr(),
+                    control.len(),
+                    &mut *line,
+                    &mut *answers,
+                    &*message,
                     answer.as_mut_ptr(),
                     answer.len(),
                     copy.as_mut_ptr(),
                     copy.len(),
-                    event,
+                    event.number(),
                     &mut *values,
                 )
             );
+            measured!(depths, peer_reader_event(&mut *peer.0, event.number()));
         });
     }
 
     fn start(&mut self, depths: &mut Depths, size: usize) {
-        let End { reader, copy, value, .. } = self;
+        let End { control, message, copy, value, peer, .. } = self;
         let bytes = [0; MESSAGE + 1];
         measured!(
             depths,
             mk_reader_start(
-                reader.control.as_mut_ptr(),
-                reader.control.len(),
-                &mut reader.message,
+                control.as_mut_ptr(),
+                control.len(),
+                &mut *message,
                 copy.as_mut_ptr(),
                 copy.len(),
                 0,
@@ -236,35 +285,36 @@ impl End {
                 &mut *value,
             )
         );
+        measured!(depths, peer_reader_send(&mut *peer.0, 0, bytes.as_ptr(), size));
     }
 
     fn time_out(&mut self, depths: &mut Depths) {
-        let End { reader, copy, value, .. } = self;
+        let End { control, message, copy, value, peer, .. } = self;
         measured!(
             depths,
             mk_reader_time_out(
-                reader.control.as_mut_ptr(),
-                reader.control.len(),
-                &reader.message,
+                control.as_mut_ptr(),
+                control.len(),
+                &*message,
                 copy.as_mut_ptr(),
                 copy.len(),
                 &mut *value,
             )
         );
+        measured!(depths, peer_reader_expire(&mut *peer.0));
     }
 }
 
 fn reader(depths: &mut Depths, commands: &Stream) {
-    let mut end =
-        End { reader: proved::Reader::new(), answer: [0; READER_ANSWER], copy: [0; PACKET], values: [0; 6], value: 0 };
-    measured!(depths, mk_reader_on(end.reader.control.as_mut_ptr(), end.reader.control.len()));
+    let mut end = End::new();
+    measured!(depths, mk_reader_on(end.control.as_mut_ptr(), end.control.len()));
     end.hear(depths, commands);
     for number in 0..=255 {
-        let control = &end.reader.control;
+        let control = &end.control;
         measured!(depths, mk_reader_value(control.as_ptr(), control.len(), number, &mut end.value));
     }
-    let control = &end.reader.control;
-    measured!(depths, mk_reader_switches(control.as_ptr(), control.len(), &mut [0; 4]));
+    let control = &end.control;
+    measured!(depths, mk_reader_switches(control.as_ptr(), control.len(), &mut [0; SWITCH_VALUES]));
     for (size, heard) in errands() {
         end.start(depths, size);
         end.start(depths, size);
@@ -279,10 +329,10 @@ fn reader(depths: &mut Depths, commands: &Stream) {
             end.hear(depths, &answer);
         }
     }
-    measured!(depths, mk_reader_power_up(end.reader.control.as_mut_ptr(), end.reader.control.len()));
+    measured!(depths, mk_reader_power_up(end.control.as_mut_ptr(), end.control.len()));
 }
 
-/// The depths of all calls of the library.
+/// The depths of all calls of the library (`mk_..`) and of the peer (`peer_..`).
 pub fn depths() -> Result<Depths, String> {
     calibrate()?;
     let mut depths = Depths::new();

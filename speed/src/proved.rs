@@ -1,141 +1,164 @@
-//! The proved library's calls. Each state is its control bytes and the buffers that a firmware keeps with them.
+//! The proved library through its crate's own types, as a firmware in Rust uses it: whatever short way these take is
+//! timed too. Only packets are here through the raw calls as well, as a firmware in C makes them.
 
-use motikhund::raw;
+use std::mem::MaybeUninit;
 
-use crate::calls::{self, Fields, MESSAGE, READER_ANSWER};
+use motikhund::constants::HEAD_VALUES;
+use motikhund::packet::Head;
+use motikhund::raw::{mk_build, mk_check};
+use motikhund::{packet, Heard, HubTold, Outcome, ReaderTold};
 
-/// Two packets: the last one stays where it came.
-pub const LINE: usize = 514;
+use crate::calls::{self, Event, Fields, Told, PACKET};
+use crate::calls::{ACTED, ADDED, COPY, DELIVERED, FAILED, FOUND, HANDED_OUT, REPEATED, WRITTEN};
 
-pub struct Packets;
+pub struct Packets([u8; PACKET]);
 
-pub struct Hub {
-    pub control: [u8; 29],
-    pub line: [u8; LINE],
-    pub gather: [u8; MESSAGE],
+pub struct Hub(motikhund::Hub);
+
+pub struct Sender(motikhund::Sender);
+
+pub struct Reader(motikhund::Reader);
+
+fn refused<'a>(why: motikhund::Refusal, packet: &'a [u8]) -> Told<'a> {
+    Told { number: why.number(), packet, ..Told::default() }
 }
-
-pub struct Sender {
-    pub control: [u8; 35],
-    pub buffer: [u8; MESSAGE],
-}
-
-pub struct Reader {
-    pub control: [u8; 83],
-    pub line: [u8; LINE],
-    pub answers: [u8; READER_ANSWER],
-    pub message: [u8; MESSAGE],
-}
-
-// SAFETY, for every call here: each pointer is that of a live reference, with its own length where the call takes one.
 
 impl calls::Packets for Packets {
-    #[inline(always)]
-    fn check(&self, bytes: &[u8], head: &mut [usize; 4]) -> u32 {
-        unsafe { raw::mk_check(bytes.as_ptr(), bytes.len(), head) }
+    fn new() -> Packets {
+        Packets([0; PACKET])
     }
 
     #[inline(always)]
-    fn build(&self, room: &mut [u8], Fields { opcode, source, status, data }: Fields, size: &mut usize) -> u32 {
-        unsafe { raw::mk_build(room.as_mut_ptr(), room.len(), opcode, source, status, data.as_ptr(), data.len(), size) }
+    fn check(&self, bytes: &[u8]) -> Told<'_> {
+        match packet::check(bytes) {
+            Ok(Head { length, opcode, source, status }) => {
+                Told { number: FOUND, values: [length as u8, opcode, source, status], ..Told::default() }
+            }
+            Err(why) => refused(why, &[]),
+        }
+    }
+
+    #[inline(always)]
+    fn build(&mut self, Fields { opcode, source, status, data }: Fields) -> Told<'_> {
+        match packet::build(&mut self.0, opcode, source, status, data) {
+            Ok(packet) => Told { number: WRITTEN, packet, ..Told::default() },
+            Err(why) => refused(why, &[]),
+        }
     }
 }
 
-impl calls::Hub for Hub {
-    fn new() -> Hub {
-        Hub { control: [0; 29], line: [0; LINE], gather: [0; MESSAGE] }
-    }
+/// What a call is lent for the numbers that it tells is not filled first, as in C.
+pub struct RawPackets([u8; PACKET]);
 
-    fn switch_on(&mut self) {
-        unsafe { raw::mk_hub_on(self.control.as_mut_ptr(), self.control.len()) };
+// SAFETY, for both calls: each pointer is that of a live reference, with its own length where the call takes one; and
+// each writes all the numbers that it is lent room for, whatever it tells.
+impl calls::Packets for RawPackets {
+    fn new() -> RawPackets {
+        RawPackets([0; PACKET])
     }
 
     #[inline(always)]
-    fn hear(&mut self, answer: &mut [u8], message: &mut [u8], event: u32, values: &mut [usize; 3]) -> u32 {
-        unsafe {
-            raw::mk_hub_hear(
-                self.control.as_mut_ptr(),
-                self.control.len(),
-                &mut self.line,
-                &mut self.gather,
-                answer.as_mut_ptr(),
-                answer.len(),
-                message.as_mut_ptr(),
-                message.len(),
-                event,
-                values,
-            )
+    fn check(&self, bytes: &[u8]) -> Told<'_> {
+        let mut head = MaybeUninit::<[usize; HEAD_VALUES]>::uninit();
+        let number = unsafe { mk_check(bytes.as_ptr(), bytes.len(), head.as_mut_ptr()) };
+        let values = unsafe { head.assume_init() }.map(|value| value as u8);
+        Told { number, values, ..Told::default() }
+    }
+
+    #[inline(always)]
+    fn build(&mut self, Fields { opcode, source, status, data }: Fields) -> Told<'_> {
+        let RawPackets(room) = self;
+        let (at, count) = (room.as_mut_ptr(), room.len());
+        let mut size = MaybeUninit::uninit();
+        let number =
+            unsafe { mk_build(at, count, opcode, source, status, data.as_ptr(), data.len(), size.as_mut_ptr()) };
+        Told { number, packet: &room[..unsafe { size.assume_init() }], ..Told::default() }
+    }
+}
+
+impl calls::Machine for Hub {
+    fn new() -> Hub {
+        Hub(motikhund::Hub::new())
+    }
+
+    /// A message gap does it, and does not fill the buffers anew.
+    fn switch_on(&mut self) {
+        let _ = self.0.event(Event::MessageGap);
+    }
+
+    #[inline(always)]
+    fn event(&mut self, event: Event) -> Told<'_> {
+        match self.0.event(event) {
+            HubTold::Nothing => Told::default(),
+            HubTold::Added { answer } => Told { number: ADDED, packet: answer, ..Told::default() },
+            HubTold::Repeated { answer } => Told { number: REPEATED, packet: answer, ..Told::default() },
+            HubTold::Message { code, message, answer } => {
+                Told { number: HANDED_OUT, values: [code, 0, 0, 0], packet: answer, message }
+            }
+            HubTold::Refused { why, answer } => refused(why, answer),
         }
+    }
+}
+
+fn ended(number: u32, copies: usize) -> Told<'static> {
+    Told { number, values: [copies as u8, 0, 0, 0], ..Told::default() }
+}
+
+#[inline(always)]
+fn sent(outcome: Outcome<'_>) -> Told<'_> {
+    match outcome {
+        Outcome::Nothing => Told::default(),
+        Outcome::Copy(packet) => Told { number: COPY, packet, ..Told::default() },
+        Outcome::Delivered { copies } => ended(DELIVERED, copies),
+        Outcome::Failed { copies } => ended(FAILED, copies),
+        Outcome::Refused(why) => refused(why, &[]),
     }
 }
 
 impl calls::Sender for Sender {
     fn new() -> Sender {
-        Sender { control: [0; 35], buffer: [0; MESSAGE] }
+        Sender(motikhund::Sender::new())
     }
 
     fn idle(&mut self) {
-        unsafe { raw::mk_sender_idle(self.control.as_mut_ptr(), self.control.len(), false) };
-    }
-
-    #[inline(always)]
-    fn start(&mut self, room: &mut [u8], code: u8, message: &[u8], value: &mut usize) -> u32 {
-        unsafe {
-            raw::mk_sender_start(
-                self.control.as_mut_ptr(),
-                self.control.len(),
-                &mut self.buffer,
-                room.as_mut_ptr(),
-                room.len(),
-                code,
-                message.as_ptr(),
-                message.len(),
-                value,
-            )
+        if self.0.out() {
+            self.0 = motikhund::Sender::new();
         }
     }
 
     #[inline(always)]
-    fn hear(&mut self, room: &mut [u8], heard: u32, value: &mut usize) -> u32 {
-        unsafe {
-            raw::mk_sender_hear(
-                self.control.as_mut_ptr(),
-                self.control.len(),
-                &self.buffer,
-                room.as_mut_ptr(),
-                room.len(),
-                heard,
-                value,
-            )
-        }
+    fn start(&mut self, code: u8, message: &[u8]) -> Told<'_> {
+        sent(self.0.send(code, message))
+    }
+
+    #[inline(always)]
+    fn hear(&mut self, heard: u32) -> Told<'_> {
+        sent(self.0.heard(Heard::from_number(heard)))
     }
 }
 
-impl calls::Reader for Reader {
+impl calls::Machine for Reader {
     fn new() -> Reader {
-        Reader { control: [0; 83], line: [0; LINE], answers: [0; READER_ANSWER], message: [0; MESSAGE] }
+        Reader(motikhund::Reader::new())
     }
 
     fn switch_on(&mut self) {
-        unsafe { raw::mk_reader_on(self.control.as_mut_ptr(), self.control.len()) };
+        self.0 = motikhund::Reader::new();
     }
 
     #[inline(always)]
-    fn hear(&mut self, answer: &mut [u8], copy: &mut [u8], event: u32, values: &mut [usize; 6]) -> u32 {
-        unsafe {
-            raw::mk_reader_hear(
-                self.control.as_mut_ptr(),
-                self.control.len(),
-                &mut self.line,
-                &mut self.answers,
-                &self.message,
-                answer.as_mut_ptr(),
-                answer.len(),
-                copy.as_mut_ptr(),
-                copy.len(),
-                event,
-                values,
-            )
+    fn event(&mut self, event: Event) -> Told<'_> {
+        match self.0.event(event) {
+            ReaderTold::Nothing => Told::default(),
+            ReaderTold::Acted { beep, answer } => {
+                let values = beep.map_or([0; 4], |beep| [beep.duration, beep.pitch, beep.count, 0]);
+                Told { number: ACTED, values, packet: answer, message: &[] }
+            }
+            ReaderTold::Repeated { answer } => Told { number: REPEATED, packet: answer, ..Told::default() },
+            ReaderTold::Refused { why, answer } => refused(why, answer),
+            ReaderTold::Copy(packet) => Told { number: COPY, packet, ..Told::default() },
+            ReaderTold::Delivered { copies } => ended(DELIVERED, copies),
+            ReaderTold::Failed { copies } => ended(FAILED, copies),
         }
     }
 }

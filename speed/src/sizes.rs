@@ -1,12 +1,12 @@
-//! What a firmware must keep for each machine, and how much code the library is.
+//! What a firmware must keep for each machine, and how much code the library and the peer are.
 
 use std::collections::BTreeMap;
-use std::mem::size_of_val;
+use std::fs;
+use std::path::Path;
 
-use motikhund::raw::*;
-
-use crate::calls::{Hub, Reader, Sender, CHARACTER_GAP, MESSAGE, ROOM_TOO_SMALL, TIME_OUT};
-use crate::proved;
+use motikhund::constants::{FRAMER_CONTROL_SIZE, HUB_CONTROL_SIZE, LINE_SIZE, READER_ANSWER_SIZE, READER_CONTROL_SIZE};
+use motikhund::constants::{MESSAGE_SIZE, SENDER_CONTROL_SIZE};
+use motikhund::{lent, Event, Found, Heard, HubTold, Outcome, ReaderTold, Refusal};
 
 pub struct State {
     pub name: &'static str,
@@ -17,63 +17,69 @@ pub struct State {
 }
 
 /// More than any call asks for.
-const AMPLE: usize = 2 * MESSAGE;
+const AMPLE: usize = 2 * MESSAGE_SIZE;
 
-/// The least room with which the call does not tell 13.
-fn least(mut call: impl FnMut(&mut [u8]) -> u32) -> usize {
+/// The least room with which the call does not refuse it.
+fn least(mut refused: impl FnMut(&mut [u8]) -> bool) -> usize {
     let mut room = [0; AMPLE];
-    (0..=AMPLE).find(|size| call(&mut room[..*size]) != ROOM_TOO_SMALL).expect("ample room")
+    (0..=AMPLE).find(|size| !refused(&mut room[..*size])).expect("ample room")
 }
 
-// SAFETY, for every call here: each pointer is that of a live reference, with its own length where the call takes one.
-
 fn framer() -> State {
-    let (mut control, mut head) = ([0; 9], [0; 4]);
-    let line = least(|line| unsafe {
-        mk_framer_hear(control.as_mut_ptr(), control.len(), line.as_mut_ptr(), line.len(), CHARACTER_GAP, &mut head)
-    });
+    let mut control = [0; FRAMER_CONTROL_SIZE];
+    let line =
+        least(|line| lent::framer::hear(&mut control, line, Event::CharacterGap) == Found::Refused(Refusal::Room));
     State {
         name: "framer",
-        control: least(|control| unsafe { mk_framer_idle(control.as_mut_ptr(), control.len()) }),
+        control: least(|control| lent::framer::idle(control).is_err()),
         kept: vec![("line", line)],
         lent: vec![],
     }
 }
 
 fn hub() -> State {
-    let (mut hub, mut values) = (proved::Hub::new(), [0; 3]);
-    let answer = least(|answer| hub.hear(answer, &mut [0; AMPLE], CHARACTER_GAP, &mut values));
-    let message = least(|message| hub.hear(&mut [0; AMPLE], message, CHARACTER_GAP, &mut values));
+    let (mut control, mut line, mut gather) = ([0; HUB_CONTROL_SIZE], [0; LINE_SIZE], [0; MESSAGE_SIZE]);
+    let mut refused = |answer: &mut [u8], message: &mut [u8]| {
+        let told = lent::hub::hear(&mut control, &mut line, &mut gather, answer, message, Event::CharacterGap);
+        matches!(told, HubTold::Refused { why: Refusal::Room, .. })
+    };
+    let answer = least(|answer| refused(answer, &mut [0; AMPLE]));
+    let message = least(|message| refused(&mut [0; AMPLE], message));
     State {
         name: "hub",
-        control: least(|control| unsafe { mk_hub_on(control.as_mut_ptr(), control.len()) }),
-        kept: vec![("line", size_of_val(&hub.line)), ("gather", size_of_val(&hub.gather))],
+        control: least(|control| lent::hub::on(control).is_err()),
+        kept: vec![("line", LINE_SIZE), ("gather", MESSAGE_SIZE)],
         lent: vec![("answer", answer), ("message", message)],
     }
 }
 
 fn sender() -> State {
-    let (mut sender, mut value) = (proved::Sender::new(), 0);
+    let (mut control, message) = ([0; SENDER_CONTROL_SIZE], [0; MESSAGE_SIZE]);
+    let copy = least(|copy| {
+        lent::sender::hear(&mut control, &message, copy, Heard::TimeOut) == Outcome::Refused(Refusal::Room)
+    });
     State {
         name: "sender",
-        control: least(|control| unsafe { mk_sender_idle(control.as_mut_ptr(), control.len(), false) }),
-        kept: vec![("message", size_of_val(&sender.buffer))],
-        lent: vec![("copy", least(|copy| sender.hear(copy, TIME_OUT, &mut value)))],
+        control: least(|control| lent::sender::idle(control, false).is_err()),
+        kept: vec![("message", MESSAGE_SIZE)],
+        lent: vec![("copy", copy)],
     }
 }
 
 fn reader() -> State {
-    let (mut reader, mut values) = (proved::Reader::new(), [0; 6]);
-    let answer = least(|answer| reader.hear(answer, &mut [0; AMPLE], CHARACTER_GAP, &mut values));
-    let copy = least(|copy| reader.hear(&mut [0; AMPLE], copy, CHARACTER_GAP, &mut values));
+    let (mut control, mut line, message) = ([0; READER_CONTROL_SIZE], [0; LINE_SIZE], [0; MESSAGE_SIZE]);
+    let mut answers = [0; READER_ANSWER_SIZE];
+    let mut refused = |answer: &mut [u8], copy: &mut [u8]| {
+        let gap = Event::CharacterGap;
+        let told = lent::reader::hear(&mut control, &mut line, &mut answers, &message, answer, copy, gap);
+        matches!(told, ReaderTold::Refused { why: Refusal::Room, .. })
+    };
+    let answer = least(|answer| refused(answer, &mut [0; AMPLE]));
+    let copy = least(|copy| refused(&mut [0; AMPLE], copy));
     State {
         name: "reader",
-        control: least(|control| unsafe { mk_reader_on(control.as_mut_ptr(), control.len()) }),
-        kept: vec![
-            ("line", size_of_val(&reader.line)),
-            ("answers", size_of_val(&reader.answers)),
-            ("message", size_of_val(&reader.message)),
-        ],
+        control: least(|control| lent::reader::on(control).is_err()),
+        kept: vec![("line", LINE_SIZE), ("answers", READER_ANSWER_SIZE), ("message", MESSAGE_SIZE)],
         lent: vec![("answer", answer), ("copy", copy)],
     }
 }
@@ -82,22 +88,56 @@ pub fn states() -> [State; 4] {
     [framer(), hub(), sender(), reader()]
 }
 
+/// Bytes of code, constants with it.
 pub struct Code {
-    pub text: usize,
+    pub library: usize,
     /// The calls for other languages, with their sizes.
     pub calls: BTreeMap<String, usize>,
+    /// Each file of the peer.
+    pub peer: Vec<(String, usize)>,
+    /// What a hub adds to a program that uses nothing else, the unused left out by the linker.
+    pub hub_alone: usize,
+    pub peer_hub_alone: usize,
 }
 
 impl Code {
-    /// Reads what `size` and `nm -S` say of the archive.
-    pub fn read(size: &str, symbols: &str) -> Option<Code> {
-        let texts = size.lines().skip(1).map(|line| line.split_whitespace().next()?.parse::<usize>().ok());
-        let calls = symbols.lines().filter_map(|line| match line.split_whitespace().collect::<Vec<_>>()[..] {
-            [_, size, "T", name] if name.starts_with("mk_") => {
-                Some((name.to_string(), usize::from_str_radix(size, 16).ok()?))
-            }
-            _ => None,
-        });
-        Some(Code { text: texts.sum::<Option<usize>>()?, calls: calls.collect() })
+    /// Reads what `speed/run` wrote of `size` and `nm`.
+    pub fn read(directory: &str) -> Result<Code, String> {
+        let read = |name: &str| {
+            let path = Path::new(directory).join(name);
+            fs::read_to_string(&path).map_err(|error| format!("{}: {error}", path.display()))
+        };
+        let texts = |name: &str| texts(&read(name)?).ok_or(format!("{name}: sizes of an unknown form"));
+        let alone = texts("alone.txt")?;
+        let [(_, without), (_, with), (_, with_peer)] = &alone[..] else {
+            return Err("alone.txt: not three programs".to_string());
+        };
+        Ok(Code {
+            library: texts("library.txt")?.into_iter().map(|(_, text)| text).sum(),
+            calls: calls(&read("symbols.txt")?),
+            peer: texts("peer.txt")?,
+            hub_alone: with - without,
+            peer_hub_alone: with_peer - without,
+        })
     }
+}
+
+/// Name and text of each file that `size` tells of.
+fn texts(size: &str) -> Option<Vec<(String, usize)>> {
+    let text = |line: &str| {
+        let words: Vec<&str> = line.split_whitespace().collect();
+        Some((words.get(5)?.rsplit('/').next()?.to_string(), words[0].parse().ok()?))
+    };
+    size.lines().skip(1).map(text).collect()
+}
+
+/// The exported calls that `nm -S` tells of.
+fn calls(symbols: &str) -> BTreeMap<String, usize> {
+    let call = |line: &str| match line.split_whitespace().collect::<Vec<_>>()[..] {
+        [_, size, "T", name] if name.starts_with("mk_") => {
+            Some((name.to_string(), usize::from_str_radix(size, 16).ok()?))
+        }
+        _ => None,
+    };
+    symbols.lines().filter_map(call).collect()
 }

@@ -98,6 +98,24 @@ pub fn note(depths: &mut Depths, name: &'static str, arguments: usize, stained: 
     depth.told.insert(told);
 }
 
+/// What a call gives, with the number told in it.
+pub trait Tells {
+    fn number(&self) -> u32;
+}
+
+impl Tells for u32 {
+    fn number(&self) -> u32 {
+        *self
+    }
+}
+
+/// Of a call that only says whether it did something.
+impl Tells for bool {
+    fn number(&self) -> u32 {
+        (*self).into()
+    }
+}
+
 macro_rules! any {
     ($argument:expr) => {
         _
@@ -107,12 +125,12 @@ macro_rules! any {
 /// Makes the call, and notes its depth and what it told.
 macro_rules! measured {
     ($depths:expr, $name:ident($($argument:expr),* $(,)?)) => {{
-        let call: unsafe extern "C" fn($($crate::stack::any!($argument)),*) -> u32 = $name;
+        let call: unsafe extern "C" fn($($crate::stack::any!($argument)),*) -> _ = $name;
         // SAFETY: every pointer lent is that of a live reference, with its own length where the call takes one.
         let told = unsafe { $crate::stack::painted(call)($($argument),*) };
         let stained = $crate::stack::stained();
         let arguments = <[&str]>::len(&[$(stringify!($argument)),*]);
-        $crate::stack::note($depths, stringify!($name), arguments, stained, told);
+        $crate::stack::note($depths, stringify!($name), arguments, stained, $crate::stack::Tells::number(&told));
     }};
 }
 

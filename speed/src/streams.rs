@@ -1,4 +1,4 @@
-//! What both programs are fed with. All of it is seeded: every run has the same bytes.
+//! What all programs are fed with. All of it is seeded: every run has the same bytes.
 
 use std::ops::Range;
 
@@ -6,7 +6,7 @@ use second::packet::*;
 use second::sender::PIECE;
 use second::table::{allowed, HIGHEST_BEEP, NO_BEEP, ROWS};
 
-use crate::calls::{ACK, CHARACTER_GAP, MESSAGE, MESSAGE_GAP, NAK_RESEND, TIME_OUT};
+use crate::calls::{Event, ACK, MESSAGE, NAK_RESEND, TIME_OUT};
 
 /// splitmix64.
 pub struct Dice(u64);
@@ -45,11 +45,11 @@ impl Dice {
 #[derive(Default)]
 pub struct Stream {
     pub bytes: Vec<u8>,
-    parts: Vec<(Range<usize>, u32)>,
+    parts: Vec<(Range<usize>, Event)>,
 }
 
 impl Stream {
-    pub fn add(&mut self, part: &[u8], gap: u32) {
+    pub fn add(&mut self, part: &[u8], gap: Event) {
         let start = self.bytes.len();
         self.bytes.extend_from_slice(part);
         self.parts.push((start..self.bytes.len(), gap));
@@ -57,7 +57,7 @@ impl Stream {
 
     /// A packet, its fields allowed or not.
     pub fn add_packet(&mut self, opcode: u8, source: u8, status: u8, data: &[u8]) {
-        self.add(&lay_out(opcode, source, status, data), CHARACTER_GAP);
+        self.add(&lay_out(opcode, source, status, data), Event::CharacterGap);
     }
 
     /// A message in its pieces.
@@ -69,15 +69,22 @@ impl Stream {
         }
     }
 
-    pub fn parts(&self) -> impl Iterator<Item = (&[u8], u32)> {
+    pub fn parts(&self) -> impl Iterator<Item = (&[u8], Event)> {
         self.parts.iter().map(|(place, gap)| (&self.bytes[place.clone()], *gap))
     }
 
-    pub fn events(&self, mut hear: impl FnMut(u32)) {
+    pub fn events(&self, mut hear: impl FnMut(Event)) {
         for (part, gap) in self.parts() {
-            part.iter().for_each(|byte| hear(u32::from(*byte)));
+            part.iter().for_each(|byte| hear(Event::Byte(*byte)));
             hear(gap);
         }
+    }
+
+    /// The events by their numbers, as C takes them.
+    pub fn numbers(&self) -> Vec<u16> {
+        let mut numbers = Vec::new();
+        self.events(|event| numbers.push(event.number() as u16));
+        numbers
     }
 
     /// Of so many bytes at least.
@@ -102,7 +109,7 @@ pub fn messages(dice: &mut Dice, volume: usize, low: usize, high: usize) -> Stre
 pub fn garbage(dice: &mut Dice, volume: usize) -> Stream {
     Stream::filled(volume, |stream| {
         let size = dice.between(1, 400);
-        let gap = if dice.one_in(8) { MESSAGE_GAP } else { CHARACTER_GAP };
+        let gap = if dice.one_in(8) { Event::MessageGap } else { Event::CharacterGap };
         stream.add(&dice.bytes(size), gap);
     })
 }

@@ -1,0 +1,250 @@
+//! Whether the peer does what the second program does: on the second program's own streams and sweeps, event by event.
+//! Compared are the number told, every value, every byte written and every byte of a room that is not; of a reader also
+//! its parameters and switches.
+
+use second::packet::{build, lay_out, COMMANDS, DECODE_DATA, HOST, LONGEST, READER};
+use second::streams::{open_stream, sweep, Kind};
+
+use crate::calls::{Event, Fields, Machine, Packets, Told};
+use crate::work::Noted;
+use crate::{other, peer};
+
+/// What a stream says, token by token.
+#[derive(Debug)]
+enum Token {
+    Line(Event),
+    TimeOut,
+    PowerUp,
+    /// Code type, then the bytes.
+    Start(Vec<u8>),
+}
+
+fn pair(text: &[u8]) -> u8 {
+    let text = std::str::from_utf8(text).expect("two digits");
+    u8::from_str_radix(text, 16).unwrap_or_else(|_| panic!("{text} is no byte"))
+}
+
+/// The streams of the second program are right throughout, so nothing else is looked for.
+fn tokens(text: &[u8]) -> Vec<Token> {
+    let mut tokens = Vec::new();
+    let mut words = text.iter().copied().filter(|character| !character.is_ascii_whitespace());
+    while let Some(first) = words.next() {
+        let token = match first {
+            b'.' => Token::Line(Event::CharacterGap),
+            b'/' => Token::Line(Event::MessageGap),
+            b'T' => Token::TimeOut,
+            b'P' => Token::PowerUp,
+            b'S' => {
+                let digits: Vec<u8> = words.by_ref().take_while(|character| *character != b';').collect();
+                Token::Start(digits.chunks(2).map(pair).collect())
+            }
+            digit => Token::Line(Event::Byte(pair(&[digit, words.next().expect("a second digit")]))),
+        };
+        tokens.push(token);
+    }
+    tokens
+}
+
+/// Both programs beside each other.
+trait Both {
+    fn new() -> Self;
+    /// What each brought, the peer's first.
+    fn take(&mut self, token: &Token) -> [Noted; 2];
+    /// What else can be seen of each after a token, by name.
+    fn rooms(&self) -> Vec<(&'static str, [&[u8]; 2])>;
+    /// Of the message room, which is long: compared where something was told.
+    fn long_room(&self) -> [&[u8]; 2];
+}
+
+struct Hubs {
+    peer: peer::Hub,
+    second: other::Hub,
+}
+
+impl Both for Hubs {
+    fn new() -> Hubs {
+        Hubs { peer: Machine::new(), second: Machine::new() }
+    }
+
+    fn take(&mut self, token: &Token) -> [Noted; 2] {
+        let Token::Line(event) = token else { panic!("{token:?} is none of a hub's") };
+        [Noted::of(self.peer.event(*event)), Noted::of(self.second.event(*event))]
+    }
+
+    fn rooms(&self) -> Vec<(&'static str, [&[u8]; 2])> {
+        vec![("answer room", [&self.peer.0.answer, &self.second.answer])]
+    }
+
+    fn long_room(&self) -> [&[u8]; 2] {
+        [&self.peer.0.message, &self.second.message]
+    }
+}
+
+struct Readers {
+    peer: peer::Reader,
+    second: other::Reader,
+    /// Of the second program, as bytes.
+    switches: [u8; 4],
+    /// Of the peer.
+    peer_switches: [u8; 4],
+}
+
+impl Both for Readers {
+    fn new() -> Readers {
+        Readers { peer: Machine::new(), second: Machine::new(), switches: [0; 4], peer_switches: [0; 4] }
+    }
+
+    fn take(&mut self, token: &Token) -> [Noted; 2] {
+        let Readers { peer, second, .. } = self;
+        let told = match token {
+            Token::Line(event) => [Noted::of(peer.event(*event)), Noted::of(second.event(*event))],
+            Token::TimeOut => [Noted::of(peer.time_out()), Noted::of(second.time_out())],
+            Token::Start(bytes) => {
+                [Noted::of(peer.start(bytes[0], &bytes[1..])), Noted::of(second.start(bytes[0], &bytes[1..]))]
+            }
+            Token::PowerUp => {
+                peer.power_up();
+                second.reader.power_up();
+                [Noted::of(Told::default()), Noted::of(Told::default())]
+            }
+        };
+        let now = second.reader.switches();
+        self.switches = [now.enabled, now.session, now.aim, now.led].map(u8::from);
+        self.peer_switches = peer.0.switches.map(u8::from);
+        told
+    }
+
+    fn rooms(&self) -> Vec<(&'static str, [&[u8]; 2])> {
+        let table = self.second.reader.table();
+        vec![
+            ("answer room", [&self.peer.0.answer, &self.second.answer]),
+            ("present values", [&self.peer.0.present, &table.present]),
+            ("permanent values", [&self.peer.0.permanent, &table.permanent]),
+            ("switches", [&self.peer_switches, &self.switches]),
+        ]
+    }
+
+    fn long_room(&self) -> [&[u8]; 2] {
+        [&self.peer.0.sender.copy, &self.second.copy]
+    }
+}
+
+/// What was told, the peer's first: else how it differs.
+fn same([peer, second]: &[Noted; 2]) -> Result<(), String> {
+    let alike = (peer == second).then_some(());
+    alike.ok_or_else(|| format!("  peer:   {}\n  second: {}", peer.describe(), second.describe()))
+}
+
+/// How they differ after a token.
+fn difference<B: Both>(both: &B, told: &[Noted; 2]) -> Option<String> {
+    if let Err(how) = same(told) {
+        return Some(how);
+    }
+    let long = told[0].tells().then(|| ("message or copy room", both.long_room()));
+    let differs = both.rooms().into_iter().chain(long).find(|(_, [peer, second])| peer != second);
+    differs.map(|(name, [peer, second])| format!("  {name}, peer:   {peer:02X?}\n  {name}, second: {second:02X?}"))
+}
+
+/// How many tokens there were.
+fn stream<B: Both>(origin: &str, text: &[u8]) -> Result<usize, String> {
+    let mut both = B::new();
+    let tokens = tokens(text);
+    for (at, token) in tokens.iter().enumerate() {
+        let told = both.take(token);
+        if let Some(how) = difference(&both, &told) {
+            return Err(format!(
+                "peer and second program differ in {origin}, first at token {at}: {token:02X?}\n{how}"
+            ));
+        }
+    }
+    let [peer, second] = both.long_room();
+    (peer == second).then_some(tokens.len()).ok_or_else(|| format!("{origin}: the rooms differ at the end"))
+}
+
+/// Streams of so many events are long enough to get deep, and there is a room at the end of each to look at.
+const EVENTS: u64 = 10_000;
+
+fn streams<B: Both>(kind: Kind, number: u64) -> Result<usize, String> {
+    let mut tokens = stream::<B>(&format!("second streams {} sweep", kind.name()), &sweep(kind).text)?;
+    for seed in 1..=number {
+        let origin = format!("second streams {} {seed} {EVENTS}", kind.name());
+        tokens += stream::<B>(&origin, &open_stream(kind, seed, EVENTS).text)?;
+    }
+    Ok(tokens)
+}
+
+struct Packers {
+    peer: peer::Packets,
+    second: other::Packets,
+    calls: usize,
+}
+
+impl Packers {
+    fn check(&mut self, bytes: &[u8]) -> Result<(), String> {
+        self.calls += 1;
+        let told = [Noted::of(self.peer.check(bytes)), Noted::of(self.second.check(bytes))];
+        same(&told).map_err(|how| format!("the check of {bytes:02X?}\n{how}"))
+    }
+
+    fn build(&mut self, opcode: u8, source: u8, status: u8, data: &[u8]) -> Result<(), String> {
+        self.calls += 1;
+        let fields = Fields { opcode, source, status, data };
+        let told = [Noted::of(self.peer.build(fields)), Noted::of(self.second.build(fields))];
+        let rooms = (self.peer.0 == self.second.0).then_some(()).ok_or("  the rooms differ".to_string());
+        let alike = same(&told).and(rooms);
+        alike.map_err(|how| format!("a build of {opcode:02X} {source:02X} {status:02X} {data:02X?}\n{how}"))
+    }
+}
+
+/// Rooms that are too small are refused before all else and left as they were.
+fn small_rooms() -> Result<usize, String> {
+    for size in 0..LONGEST {
+        let mut rooms = [[0xAA; LONGEST]; 2];
+        let [peer, second] = &mut rooms;
+        // SAFETY: the room has more bytes than are told.
+        let told = unsafe { peer::peer_build(peer.as_mut_ptr(), size, 0, 1, 0xFF, [].as_ptr(), 0) };
+        let due = build(&mut second[..size], 0, 1, 0xFF, &[]).expect_err("too small").number();
+        if usize::from(told.number) != due || peer != second {
+            return Err(format!("a build in {size} bytes: the peer tells {}, the second program {due}", told.number));
+        }
+    }
+    Ok(LONGEST)
+}
+
+/// The check and the build alone: every length, every byte of a packet wrong, every opcode with every status.
+fn packets() -> Result<usize, String> {
+    let mut both = Packers { peer: Packets::new(), second: Packets::new(), calls: 0 };
+    let data: Vec<u8> = (0..LONGEST).map(|i| (i * 89 + 250) as u8).collect();
+    for size in 0..=251 {
+        let mut bytes = lay_out(DECODE_DATA, READER, 0, &data[..size]);
+        for cut in 0..=bytes.len() {
+            both.check(&bytes[..cut])?;
+        }
+        bytes.extend([0xFF; 3]);
+        for at in 0..bytes.len() {
+            bytes[at] ^= 1 << (at % 8);
+            both.check(&bytes)?;
+            bytes[at] ^= 1 << (at % 8);
+        }
+    }
+    for low in 0..4 {
+        both.check(&[low, 0, 0, 0, 0, 0])?;
+    }
+    for size in 0..=LONGEST {
+        [READER, HOST, 1].into_iter().try_for_each(|source| both.build(COMMANDS[0], source, 0, &data[..size]))?;
+    }
+    for (opcode, status) in (0..=255).flat_map(|opcode| (0..=255).map(move |status| (opcode, status))) {
+        both.build(opcode, HOST, status, &data[..usize::from(opcode ^ status)])?;
+    }
+    Ok(both.calls)
+}
+
+/// How many calls were compared, over so many seeded streams for each machine.
+pub fn compare(number: u64) -> Result<usize, String> {
+    if !peer::laid_out_alike() {
+        return Err("the peer's structs are not as C lays them out".to_string());
+    }
+    let hubs = streams::<Hubs>(Kind::Hub, number)?;
+    let readers = streams::<Readers>(Kind::Reader, number)?;
+    Ok(packets()? + small_rooms()? + hubs + readers)
+}
