@@ -60,7 +60,7 @@ const REASONS: [(&str, &str); 5] = [
     ),
     (
         "reader, ",
-        "as for a hub; and every eighth event here ends a packet, for which mk_reader_hear reads the whole control value
+        "as for a hub; and about every eighth event here ends a packet, for which mk_reader_hear reads the whole control value
     and tests it. Timed natively on an ARM processor, from the same intermediate code: 2.0",
     ),
     (
@@ -76,7 +76,8 @@ const REASONS: [(&str, &str); 5] = [
     (
         "mk_hub_hear",
         "32 bytes are arguments that no register holds, 56 the return address and six saved registers, 184 the frame: 40
-    for what the framer's call gives back, the rest for what outlives that call. The call itself takes 40 more",
+    for what the framer's call gives back, 16 for what it is lent, 128 for arguments and values that no register is
+    left for. The framer's call itself takes 40 more",
     ),
 ];
 

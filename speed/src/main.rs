@@ -27,20 +27,21 @@ use work::{Inputs, TimedRow};
 const USAGE: &str = "usage: speed DIRECTORY [--quick] [--emulated]
 DIRECTORY holds what `size` and `nm -S` say of the archive, the peer and the small programs, as speed/run writes it.";
 
-/// How much is done: rounds of timing, and seeded streams over which the peer is compared.
+/// How much is done: rounds of timing, seeded streams over which the peer is compared, and about how many bytes are in
+/// each input whose instructions are counted, which takes a thousand times as long as timing. Of the few that a quick
+/// run counts garbage has some twenty parts, and its row differs from that of a whole run by a twentieth.
 struct Amount {
     rounds: usize,
     streams: u64,
+    counted: usize,
 }
 
-const WHOLE: Amount = Amount { rounds: 20, streams: 100 };
-const QUICK: Amount = Amount { rounds: 3, streams: 20 };
+const WHOLE: Amount = Amount { rounds: 20, streams: 100, counted: 1 << 14 };
+const QUICK: Amount = Amount { rounds: 3, streams: 20, counted: 1 << 12 };
 
 /// About so many bytes are in each input that is timed: more than a predictor of branches learns, and less than a cache
 /// holds.
 const TIMED: usize = 1 << 16;
-/// And in each whose instructions are counted, which takes a thousand times as long.
-const COUNTED: usize = 1 << 12;
 
 fn main() -> ExitCode {
     let words: Vec<String> = std::env::args().skip(1).collect();
@@ -72,7 +73,7 @@ fn run(directory: &str, amount: Amount, emulated: bool) -> Result<(), String> {
     let compared = same::compare(amount.streams)?;
     println!("Peer and second program do the same in {compared} calls.\n");
     let counted = match count::calibrate() {
-        Ok(()) => Some(counted()?),
+        Ok(()) => Some(counted(amount.counted)?),
         Err(why) => {
             println!("{why}: instructions are not counted here.\n");
             None
@@ -103,8 +104,8 @@ fn measured(row: &TimedRow) -> Measured {
     Measured { name: row.name, events: row.events, bar: row.bar, took: row.took() }
 }
 
-fn counted() -> Result<Vec<Measured>, String> {
-    let inputs = Inputs::new(COUNTED);
+fn counted(volume: usize) -> Result<Vec<Measured>, String> {
+    let inputs = Inputs::new(volume);
     let rows = work::rows(&inputs)?;
     rows.into_iter()
         .map(|row| {
