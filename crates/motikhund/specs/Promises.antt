@@ -1,6 +1,7 @@
 -- What each exported call promises. A control value under its size, or a room under what the call asks for, is number 13 with
--- nothing changed. Else it is the library's call on what the bytes read as, with that call's own promise; what it told stands in
--- numbers, and the control bytes afterwards are those of the control value that it left, or as they were where a start was refused.
+-- nothing changed; then a number that names no event or reply does nothing. Else it is the library's call on what the bytes read as, with
+-- that call's own promise; what it told stands in numbers, and the control bytes afterwards are those of the control value that it left, or
+-- as they were where a start was refused. Only the short way writes less of them.
 use Prim.Native.Nat.{ℕ}
 use mathlib.Core.Bool.{Bool, true, false}
 use mathlib.Core.List.{List, [], _∷_}
