@@ -9,7 +9,7 @@ use lib.ListN.{length, getD, take, drop, set, length-take, length-drop, length-a
 use lib.Seq.{getD-take}
 use borrow.Author.Tests.{lt-ltb, le-ltb, ne-eqb, eqb-true}
 use Rattle.words.specs.Lists.{Bytes, Wide}
-use Rattle.words.proofs.Lists.{bytes-take, bytes-drop}
+use Rattle.words.proofs.Lists.{never, bytes-take, bytes-drop}
 use Rattle.packet.specs.Packet.{checkOf}
 use Rattle.packet.specs.Refusals.{numberOf}
 use Rattle.packet.specs.Sizes.{packetSize}
@@ -110,19 +110,19 @@ begun-over f h = simp (le-ltb (f .count) packetSize h)
 whole-again : (a k : ℕ) (s : List ℕ) → take a s ++ (take k (drop a s) ++ drop k (drop a s)) ≡ s
 whole-again a k s = rw (take-append-drop k (drop a s)) (take-append-drop a s)
 
-module _ {f next : Framer} {second : Bool} {buffer : List ℕ} {g : Going} (t : g ≡ goingBy (f .deaf) (next .deaf) (next .count)) where
+module _ {f next : Framer} {second : Bool} {buffer : List ℕ} {g : Going} (some : g ≡ Left → ⊥) (t : g ≡ goingBy (f .deaf) (next .deaf) (next .count)) where
   -- Where nothing was found, nothing was told.
   goes-byte : {buffer′ : List ℕ} {b : ℕ} →
       ((last : ℕ) → Listens (halvesWith f second last) buffer (Byte b) (record { halves = halvesWith next second last; found = Nothing }) buffer′) →
       GoesOn f second buffer (Byte b) g buffer′
   unfolding goesOn tellsNothing silent
-  goes-byte k = on t (rw (listened-nothing (k 0) refl) refl) k
+  goes-byte k = on some t (rw (listened-nothing (k 0) refl) refl) k
 
   goes-gap : {buffer′ : List ℕ} →
       ((last : ℕ) → Listens (halvesWith f second last) buffer CharacterGap (record { halves = halvesWith next second last; found = Nothing }) buffer′) →
       GoesOn f second buffer CharacterGap g buffer′
   unfolding goesOn tellsNothing silent
-  goes-gap k = on t (rw (listened-nothing (k 0) refl) refl) k
+  goes-gap k = on some t (rw (listened-nothing (k 0) refl) refl) k
 
 -- An event that changes no byte of the half changes none at all.
 still : {f next : Framer} {second : Bool} {buffer : List ℕ} {e : Event} → length buffer ≡ lineSize → Bytes buffer →
@@ -138,12 +138,12 @@ still {f} {next} {second} {buffer} {e} long bytes frames last =
 
 pub carry-deaf : {f : Framer} {second : Bool} {buffer : List ℕ} {b : ℕ} → length buffer ≡ lineSize → Bytes buffer → f .deaf ≡ true →
     GoesOn f second buffer (Byte b) (On 0) buffer
-carry-deaf long bytes e = goes-byte {next = record { count = 0; deaf = true }} (rw e refl) (still long bytes (λ line h. byte-deaf h e (record { is = refl })))
+carry-deaf long bytes e = goes-byte {next = record { count = 0; deaf = true }} (λ z. never (cc)) (rw e refl) (still long bytes (λ line h. byte-deaf h e (record { is = refl })))
 
 pub carry-on : {f : Framer} {second : Bool} {buffer half : List ℕ} {b a r : ℕ} → length buffer ≡ lineSize → f .deaf ≡ false → Place second a →
     Inside f (take (a + packetSize - a) (drop a buffer)) b r half → (r ≡ 0 → ⊥) → Bytes (take a buffer ++ (half ++ drop (a + packetSize - a) (drop a buffer))) →
     GoesOn f second buffer (Byte b) (On r) (take a buffer ++ (half ++ drop (a + packetSize - a) (drop a buffer)))
-carry-on {r = r} long e p k some bytes = goes-byte {next = record { count = r; deaf = false }} (rw e refl) (λ last. listens long p (record { is = refl }) (k .frames some) bytes)
+carry-on {r = r} long e p k some bytes = goes-byte {next = record { count = r; deaf = false }} (λ z. never (cc)) (rw e refl) (λ last. listens long p (record { is = refl }) (k .frames some) bytes)
 
 pub carry-left : {f : Framer} {second : Bool} {buffer half : List ℕ} {b a r : ℕ} → Place second a →
     Inside f (take (a + packetSize - a) (drop a buffer)) b r half → r ≡ 0 →
@@ -158,11 +158,11 @@ carry-left {f} {second} {buffer} {half} {b} {a} {r} p k none =
 
 module _ {f : Framer} {second : Bool} {buffer : List ℕ} (long : length buffer ≡ lineSize) (bytes : Bytes buffer) where
   pub pause-woken : f .deaf ≡ true → GoesOn f second buffer CharacterGap Woken buffer
-  pause-woken e = goes-gap {next = record { count = 0; deaf = false }} (rw e refl) (still long bytes (λ line h. hear-gap refl h (gap-deaf e (record { is = refl }))))
+  pause-woken e = goes-gap {next = record { count = 0; deaf = false }} (λ z. never (cc)) (rw e refl) (still long bytes (λ line h. hear-gap refl h (gap-deaf e (record { is = refl }))))
 
   module _ {n : ℕ} (e : f .deaf ≡ false) (begun : Begun f n) where
     pub pause-on : n ≡ 0 → GoesOn f second buffer CharacterGap (On 0) buffer
-    pause-on z = goes-gap {next = record { count = 0; deaf = false }} (rw e refl) (still long bytes (λ line h. hear-gap refl h (gap-idle e begun z (record { is = refl }))))
+    pause-on z = goes-gap {next = record { count = 0; deaf = false }} (λ z. never (cc)) (rw e refl) (still long bytes (λ line h. hear-gap refl h (gap-idle e begun z (record { is = refl }))))
 
     pub pause-left : (n ≡ 0 → ⊥) → GoesOn f second buffer CharacterGap Left buffer
     unfolding goesOn tellsNothing lineIn halfOf silent

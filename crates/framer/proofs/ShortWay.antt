@@ -17,8 +17,13 @@ use Rattle.framer.proofs.Unique.{listen-unique}
 -- Whatever `listen` does with an event that was not left is that: nothing found, and these bytes.
 pub short-way-listens : {f : Framer} {second : Bool} {g : Going} {last : ℕ} {buffer buffer₁ buffer′ : List ℕ} {e : Event} {r : Listened} → GoesOn f second buffer e g buffer₁ → (g ≡ Left → ⊥) →
     Listens (halvesWith f second last) buffer e r buffer′ → (r .found ≡ Nothing) × (buffer′ ≡ buffer₁)
-short-way-listens {last = last} (on t q k) h l = let u = listen-unique l (k last) in (ap (λ (x : Listened). x .found) (u .0), u .1)
+short-way-listens {last = last} (on s t q k) h l = let u = listen-unique l (k last) in (ap (λ (x : Listened). x .found) (u .0), u .1)
 short-way-listens (left q k) h l = absurd (h refl)
+
+-- What it left it has not touched.
+pub short-way-left : {f : Framer} {second : Bool} {buffer buffer′ : List ℕ} {e : Event} → GoesOn f second buffer e Left buffer′ → buffer′ ≡ buffer
+short-way-left (on s t q k) = absurd (s refl)
+short-way-left (left q k) = k
 
 pub silent-told : (hs : List Heard) → silent hs ≡ true → hs ≡ []
 unfolding silent

@@ -38,9 +38,9 @@ accept-unique p q = p .is ∙ sym (q .is)
 
 pub go-on-unique : {f : Framer} {second : Bool} {buffer buffer₁ buffer₂ : List ℕ} {e : Event} {r r′ : Going} → GoesOn f second buffer e r buffer₁ → GoesOn f second buffer e r′ buffer₂ →
     (r ≡ r′) × (buffer₁ ≡ buffer₂)
-go-on-unique {f} (on t g k) (on t′ g′ k′) =
+go-on-unique {f} (on s t g k) (on s′ t′ g′ k′) =
     let u = listen-unique (k 0) (k′ 0) in
     (t ∙ (ap (λ (l : Listened). goingBy (f .deaf) (l .halves .framer .deaf) (l .halves .framer .count)) (u .0) ∙ sym t′), u .1)
-go-on-unique (on t g k) (left g′ k′) = never (cc)
-go-on-unique (left g k) (on t g′ k′) = never (cc)
+go-on-unique (on s t g k) (left g′ k′) = never (cc)
+go-on-unique (left g k) (on s t g′ k′) = never (cc)
 go-on-unique (left g k) (left g′ k′) = (refl, k ∙ sym k′)

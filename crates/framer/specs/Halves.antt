@@ -124,7 +124,7 @@ goingBy false false n = On n
 -- Where it goes on, what `listen` promises, and nothing is found (`short-way-listens`); else nothing is done. A short way takes its
 -- event without a test for number 13: it stands for an event with rooms of full size, and whoever lends rooms tests them first.
 pub data GoesOn (f : Framer) (second : Bool) (buffer : List ℕ) (e : Event) : Going → List ℕ → Type 0 where
-  on : {g : Going} {next : Framer} {buffer′ : List ℕ} → g ≡ goingBy (f .deaf) (next .deaf) (next .count) → goesOn f second buffer e ≡ true →
+  on : {g : Going} {next : Framer} {buffer′ : List ℕ} → (g ≡ Left → ⊥) → g ≡ goingBy (f .deaf) (next .deaf) (next .count) → goesOn f second buffer e ≡ true →
       ((last : ℕ) → Listens (halvesWith f second last) buffer e (record { halves = halvesWith next second last; found = Nothing }) buffer′) →
       GoesOn f second buffer e g buffer′
   left : {buffer′ : List ℕ} → goesOn f second buffer e ≡ false → buffer′ ≡ buffer → GoesOn f second buffer e Left buffer′

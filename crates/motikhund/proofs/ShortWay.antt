@@ -175,7 +175,7 @@ module _ (control : List ℕ) (long : 10 ≤ length control) where
       by : (g : Going) → true ≡ wentOn g → FrontAfter g (take 10 control) front′ → halves.GoesOn (framerIn (take 10 control)) (flagIn (take 10 control) 9) line (eventOf n) g line₁ →
           Went control line n front′ line₁
       by Left t f (left q l) = never (cc)
-      by g t f (on {next = next} e q l) =
+      by g t f (on {next = next} s e q l) =
           let last = numberIn (drop 10 control) in
           let u = going-event (framerIn (take 10 control)) (flagIn (take 10 control) 9) line n q in
           let w = front-after g next front′ t e f in
