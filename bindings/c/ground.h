@@ -194,7 +194,7 @@ static inline size_t make_packet(
 // ---- control values
 
 // Where their parts stand (crates/motikhund/specs/Control.antt). A number has eight bytes, low byte first. Who changes
-// this raises MK_VERSION.
+// this raises the minor number of MK_VERSION.
 enum {
     LINE_COUNT = 0, // of framer, hub and reader: the bytes of the packet begun
     LINE_DEAF = 8,

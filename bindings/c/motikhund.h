@@ -68,8 +68,8 @@
 //   does what it does alone, and a second message gap nothing more. So a timer that fires twice does no harm.
 // - A reader's permanent values outlast power-off where you keep the bytes of its control value. Put them back, power
 //   up, and read every parameter: if one is outside its range, as in a memory that is blank (all FFh, or all 0),
-//   nothing was kept, and mk_reader_on is due. So it is after an update of the library (MK_VERSION). A hub keeps
-//   nothing.
+//   nothing was kept, and mk_reader_on is due. So it is after an update of the library that moved what stands there
+//   (MK_VERSION says which do). A hub keeps nothing.
 #ifndef MOTIKHUND_H
 #define MOTIKHUND_H
 
@@ -77,11 +77,12 @@
 #include <stddef.h>
 #include <stdint.h>
 
-// The version of header, archive and Rust crate; as a number major * 10,000 + minor * 100 + patch. It rises with each
-// change of what stands where in a control value. So control values are not kept over an update: whoever stores one
-// stores MK_VERSION with it, and with any other version initialises instead of putting it back.
-#define MK_VERSION "0.2.0"
-#define MK_VERSION_NUMBER 200
+// The version of header, archive and Rust crate; as a number major * 10,000 + minor * 100 + patch. Minor or major rises
+// with each change of what stands where in a control value, the patch with every other landing. So whoever stores a
+// control value stores MK_VERSION_NUMBER with it, and puts it back only where MK_VERSION_NUMBER / 100 is the same;
+// else it is initialised anew.
+#define MK_VERSION "0.2.1"
+#define MK_VERSION_NUMBER 201
 
 #ifdef __cplusplus
 #define MK_ASSERT(truth, why) static_assert(truth, why)
@@ -269,7 +270,9 @@ enum {
     MK_DURATION_MIX_1 = 4,
     MK_DURATION_MIX_2 = 5,
     MK_DURATION_MIX_3 = 6,
-    MK_DURATION_MIX_4 = 7
+    MK_DURATION_MIX_4 = 7,
+    MK_DURATION_HIGH_CLICK = 8,
+    MK_DURATION_LOW_CLICK = 9
 };
 enum {
     MK_PITCH_HIGH = 0,
@@ -279,7 +282,9 @@ enum {
     MK_PITCH_LOW_HIGH = 4,
     MK_PITCH_HIGH_LOW_HIGH = 5,
     MK_PITCH_LOW_HIGH_LOW = 6,
-    MK_PITCH_HIGH_HIGH_LOW_LOW = 7
+    MK_PITCH_HIGH_HIGH_LOW_LOW = 7,
+    MK_PITCH_HIGH_HIGH_HIGH = 8,
+    MK_PITCH_LOW_CLICK = 9
 };
 
 // Where each value stands that a call tells beside its number, and how many there are.

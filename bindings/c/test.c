@@ -238,7 +238,7 @@ static void garbage_reader_event(sights *told, uint32_t event)
            pitch = room.values[MK_READER_VALUE_PITCH], count = room.values[MK_READER_VALUE_COUNT];
     CHECK(other.number == number && other.answer == answer);
     CHECK(other.beep.duration == duration && other.beep.pitch == pitch && other.beep.count == count);
-    CHECK(duration <= MK_DURATION_MIX_4 && pitch <= MK_PITCH_HIGH_HIGH_LOW_LOW && count <= 5);
+    CHECK(duration <= MK_DURATION_LOW_CLICK && pitch <= MK_PITCH_LOW_CLICK && count <= 13);
     CHECK(number == MK_ACTED || count == 0);
     CHECK(stays(room.reader_answer, answer, MK_READER_ANSWER_SIZE));
     bool of_sender = number == MK_COPY || number == MK_DELIVERED || number == MK_FAILED;
@@ -409,7 +409,7 @@ static void test_case_answers(void)
     CHECK(hub_said(hub_takes(PIECE), MK_MESSAGE, HUB_ACK));
     CHECK(reader_said(reader_takes("05 E6 04 00 01 FF 10"), MK_ACTED, READER_ACK));
     CHECK(hub_said(hub_takes("03"), MK_LENGTH, HUB_NAK_1));
-    CHECK(reader_said(reader_takes("05 E6 04 00 1B FE F6"), MK_BEEP, READER_NAK_6));
+    CHECK(reader_said(reader_takes("05 E6 04 00 1E FE F3"), MK_BEEP, READER_NAK_6));
     CHECK(hub_said(hub_takes(". " READER_ACK), MK_NOTHING, ""));
     CHECK(hub_said(hub_takes(READER_NAK_6), MK_NOTHING, ""));
 }
@@ -584,6 +584,9 @@ static const mk_beep beeps[] = {
     {MK_DURATION_MIX_3, MK_PITCH_HIGH_LOW_HIGH, 3},
     {MK_DURATION_MIX_4, MK_PITCH_LOW_HIGH_LOW, 3},
     {MK_DURATION_LONG, MK_PITCH_HIGH_HIGH_LOW_LOW, 4},
+    {MK_DURATION_SHORT, MK_PITCH_HIGH_HIGH_HIGH, 13},
+    {MK_DURATION_HIGH_CLICK, MK_PITCH_HIGH, 1},
+    {MK_DURATION_LOW_CLICK, MK_PITCH_LOW_CLICK, 1},
 };
 
 static bool sounds(mk_reader_told told, mk_beep beep)
@@ -595,7 +598,7 @@ static void test_beeps(void)
 {
     static const uint8_t opcodes[] = {MK_OPCODE_BEEP, MK_OPCODE_PARAM_SEND};
     static const mk_beep silence = {0, 0, 0};
-    CHECK(COUNT(beeps) == 0x1B); // so 1Ah is the last
+    CHECK(COUNT(beeps) == 0x1E); // so 1Dh is the last
     for (size_t i = 0; i < 2; i++) {
         for (unsigned code = 0; code <= 0xFF; code++) {
             uint8_t datum = (uint8_t)code;
@@ -672,7 +675,7 @@ static void test_no_handshake(void)
     CHECK(reader_said(reader_takes("07 C6 04 00 FF 9F 00 FD 91"), MK_ACTED, READER_ACK));
     CHECK(reader_said(reader_takes("07 C6 04 01 FF 9F 00 FD 90"), MK_REPEATED, READER_ACK));
     CHECK(reader_said(reader_takes("05 E6 04 00 01 FF 10"), MK_ACTED, ""));
-    CHECK(reader_said(reader_takes("05 E6 04 00 1B FE F6"), MK_BEEP, ""));
+    CHECK(reader_said(reader_takes("05 E6 04 00 1E FE F3"), MK_BEEP, ""));
 }
 
 static bool switched(bool scanning, bool session, bool aim, bool led)

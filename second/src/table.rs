@@ -63,8 +63,8 @@ impl Table {
     }
 }
 
-/// The highest beep code allowed; the table of §13 itself goes on to 1Dh.
-pub const HIGHEST_BEEP: u8 = 0x1A;
+/// The highest beep code allowed.
+pub const HIGHEST_BEEP: u8 = 0x1D;
 /// In PARAM_SEND only.
 pub const NO_BEEP: u8 = 0xFF;
 
@@ -73,7 +73,7 @@ pub type Beep = [u8; 3];
 
 /// One row for each code from 00h. Durations: short 0, long 1, fast warble 2, slow warble 3, mix 1 to 4 are 4 to 7,
 /// high click 8, low click 9. Pitches: H 0, L 1, HLHL 2, HL 3, LH 4, HLH 5, LHL 6, HHLL 7, HHH 8, low click 9.
-const BEEPS: [Beep; 30] = [
+const BEEPS: [Beep; HIGHEST_BEEP as usize + 1] = [
     [0, 0, 1],
     [0, 0, 2],
     [0, 0, 3],

@@ -283,17 +283,17 @@ fn the_reader_refuses_in_rising_order() {
         (6, DECODE_DATA, HOST, MORE, &[]),
         (6, 0xF0, HOST, 0, &[]),
         (7, PARAM_SEND, HOST, 0, &[]),
-        (7, PARAM_SEND, HOST, 0, &[0x1B, 0x80]),
+        (7, PARAM_SEND, HOST, 0, &[0x1E, 0x80]),
         (7, PARAM_REQUEST, HOST, 0, &[]),
-        (7, BEEP, HOST, 0, &[0x1B, 0]),
+        (7, BEEP, HOST, 0, &[0x1E, 0]),
         (7, START_SESSION, HOST, 0, &[0]),
     ] {
         assert_eq!(reader(&sent(opcode, source, status, data)), format!("R {number}\n{READER_NAK_2}"));
     }
     for (number, opcode, data) in [
-        (8, BEEP, &[0x1B][..]),
+        (8, BEEP, &[0x1E][..]),
         (8, BEEP, &[0xFF]),
-        (8, PARAM_SEND, &[0x1B, 0x80, 2]),
+        (8, PARAM_SEND, &[0x1E, 0x80, 2]),
         (9, PARAM_SEND, &[0x00, 0x80, 2]),
         (9, PARAM_SEND, &[0xFF, 0x81, 0]),
         (9, PARAM_SEND, &[0xFF, 0x8A, 1]),
@@ -317,16 +317,26 @@ fn every_range_has_its_ends() {
 }
 
 #[test]
-fn beeps_end_at_1ah() {
-    assert_eq!(beep(0x00), Some([0, 0, 1]));
-    assert_eq!(beep(0x13), Some([1, 1, 5]));
-    assert_eq!(beep(0x1A), Some([1, 7, 4]));
-    assert_eq!(beep(0x1B), None);
-    assert_eq!(reader("05 E6 04 00 1A FE F7"), format!("B 1 7 4\n{QUIET}{READER_ACK}"));
-    assert_eq!(reader("05 E6 04 00 1B FE F6"), format!("R 8\n{READER_NAK_6}"));
-    assert_eq!(reader("05 E6 04 00 1C FE F5"), format!("R 8\n{READER_NAK_6}"));
-    let with_beep = sent(PARAM_SEND, HOST, 0, &[0x16]);
-    assert_eq!(reader(&with_beep), format!("B 4 3 2\n{QUIET}{READER_ACK}"));
+fn beeps_end_at_1dh() {
+    for (code, row) in [
+        (0x00, [0, 0, 1]),
+        (0x13, [1, 1, 5]),
+        (0x1A, [1, 7, 4]),
+        (0x1B, [0, 8, 13]),
+        (0x1C, [8, 0, 1]),
+        (0x1D, [9, 9, 1]),
+    ] {
+        assert_eq!(beep(code), Some(row));
+    }
+    assert_eq!(beep(0x1E), None);
+    assert_eq!(reader("05 E6 04 00 1C FE F5"), format!("B 8 0 1\n{QUIET}{READER_ACK}"));
+    for code in 0..=0xFF {
+        let row = beep(code).map(|[duration, pitch, count]| format!("B {duration} {pitch} {count}\n"));
+        let told = |row: Option<String>| row.map_or(format!("R 8\n{READER_NAK_6}"), |row| row + QUIET + READER_ACK);
+        assert_eq!(reader(&sent(BEEP, HOST, 0, &[code])), told(row.clone()));
+        let silence = (code == 0xFF).then(String::new);
+        assert_eq!(reader(&sent(PARAM_SEND, HOST, 0, &[code])), told(row.or(silence)));
+    }
 }
 
 #[test]
@@ -376,7 +386,7 @@ fn without_handshaking_only_requests_are_answered() {
     assert_eq!(reader(OFF), format!("{QUIET}{READER_ACK}"));
     assert_eq!(reader_after(OFF, ON), QUIET);
     assert_eq!(reader_after(OFF, "05 C7 04 00 9F FE 91"), format!("{QUIET}A 07 C6 00 00 FF 9F 00 FD 95\n"));
-    assert_eq!(reader_after(OFF, "03 . 04 FF . 04 C8 00 00 FF 34 05 E6 04 00 1B FE F6"), "R 1\nR 3\nR 4\nR 8\n");
+    assert_eq!(reader_after(OFF, "03 . 04 FF . 04 C8 00 00 FF 34 05 E6 04 00 1E FE F3"), "R 1\nR 3\nR 4\nR 8\n");
     assert_eq!(reader_after(&format!("{OFF} {ON}"), "03"), format!("R 1\n{READER_NAK_1}"));
 }
 
@@ -462,7 +472,7 @@ fn the_sender_heeds_only_right_answers() {
 
 #[test]
 fn a_waiting_reader_is_silent_for_1_to_3_only() {
-    let refused = reader_after(&start(1), "03 . 04 D0 04 00 FF 29 . 04 . 04 C8 00 00 FF 34 05 E6 04 00 1B FE F6");
+    let refused = reader_after(&start(1), "03 . 04 D0 04 00 FF 29 . 04 . 04 C8 00 00 FF 34 05 E6 04 00 1E FE F3");
     assert_eq!(refused, format!("R 1\nR 2\nR 3\nR 4\n{READER_NAK_2}R 8\n{READER_NAK_6}"));
     assert_eq!(reader_after(&(start(1) + "04 D0 04 00 FF 28"), "03"), format!("R 1\n{READER_NAK_1}"));
     assert_eq!(reader_after(&start(1), "04 C8 04 00 FF 30"), format!("{QUIET}{READER_ACK}"));

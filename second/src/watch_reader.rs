@@ -9,13 +9,17 @@ use crate::sights::{bit_alone, Name, Sights};
 use crate::table::{place, Table, ACK_NAK, HIGHEST_BEEP, NO_BEEP, ROWS, TRIGGER};
 use crate::watch_room::{FramerLook, RoomWatch, ROOM_NAMES};
 
-const NAMES: [Name; 76] = [
+/// How many beep codes are allowed.
+const CODES: usize = HIGHEST_BEEP as usize + 1;
+
+const NAMES: [Name; 77] = [
     ("command acted on, each opcode", 12),
     ("command acted on while the sender waits", 1),
     ("command acted on with 9Fh off, each opcode", 12),
-    ("BEEP, each code 00h to 1Ah", 27),
-    ("BEEP refused: 1Bh, 1Ch, 1Dh, FFh, other", 5),
-    ("PARAM_SEND beeps, each code 00h to 1Ah", 27),
+    ("BEEP, each code that is allowed", CODES),
+    ("BEEP refused: the first code that is not allowed, another, FEh, FFh", 4),
+    ("PARAM_SEND beeps, each code that is allowed", CODES),
+    ("PARAM_SEND refused: the first beep byte that is not allowed, another, FEh", 3),
     ("PARAM_SEND with beep byte FFh", 1),
     ("PARAM_SEND with the beep byte alone", 1),
     ("PARAM_SEND with 125 pairs accepted", 1),
@@ -258,13 +262,18 @@ impl ReaderWatch {
             (Refusal::DataLength, PARAM_SEND) if !packet.data().is_empty() => {
                 self.sights.see("PARAM_SEND of even data length refused")
             }
-            (Refusal::Beep, BEEP) => {
-                let member = match packet.data()[0] {
-                    code @ 0x1B..=0x1D => usize::from(code - 0x1B),
-                    0xFF => 3,
-                    _ => 4,
+            (Refusal::Beep, opcode) => {
+                let name = match opcode {
+                    BEEP => "BEEP refused: the first code that is not allowed, another, FEh, FFh",
+                    _ => "PARAM_SEND refused: the first beep byte that is not allowed, another, FEh",
                 };
-                self.sights.see_member("BEEP refused: 1Bh, 1Ch, 1Dh, FFh, other", member);
+                let member = match packet.data()[0] {
+                    code if usize::from(code) == CODES => 0,
+                    0xFE => 2,
+                    0xFF => 3,
+                    _ => 1,
+                };
+                self.sights.see_member(name, member);
             }
             (Refusal::Parameter, _) => self.refused_pairs(&packet.data()[1..]),
             _ => {}
@@ -356,7 +365,7 @@ impl ReaderWatch {
     fn by_opcode(&mut self, before: ReaderLook, packet: &Packet, step: &Step, turned: (bool, bool)) {
         let data = packet.data();
         match packet.opcode() {
-            BEEP => self.sights.see_member("BEEP, each code 00h to 1Ah", usize::from(data[0])),
+            BEEP => self.sights.see_member("BEEP, each code that is allowed", usize::from(data[0])),
             PARAM_SEND => self.param_send(packet),
             PARAM_REQUEST => self.param_request(before, data, step),
             PARAM_DEFAULTS => {
@@ -378,7 +387,7 @@ impl ReaderWatch {
         let code = packet.data()[0];
         let pairs = &packet.data()[1..];
         if code <= HIGHEST_BEEP {
-            self.sights.see_member("PARAM_SEND beeps, each code 00h to 1Ah", usize::from(code));
+            self.sights.see_member("PARAM_SEND beeps, each code that is allowed", usize::from(code));
         }
         self.sights.see_if(code == NO_BEEP, "PARAM_SEND with beep byte FFh");
         self.sights.see_if(pairs.is_empty(), "PARAM_SEND with the beep byte alone");

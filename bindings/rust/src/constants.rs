@@ -211,6 +211,10 @@ pub const DURATION_MIX_2: u8 = 5;
 pub const DURATION_MIX_3: u8 = 6;
 /// Mix 4.
 pub const DURATION_MIX_4: u8 = 7;
+/// A high click.
+pub const DURATION_HIGH_CLICK: u8 = 8;
+/// A low click.
+pub const DURATION_LOW_CLICK: u8 = 9;
 
 /// High.
 pub const PITCH_HIGH: u8 = 0;
@@ -228,6 +232,10 @@ pub const PITCH_HIGH_LOW_HIGH: u8 = 5;
 pub const PITCH_LOW_HIGH_LOW: u8 = 6;
 /// High-high-low-low.
 pub const PITCH_HIGH_HIGH_LOW_LOW: u8 = 7;
+/// High-high-high.
+pub const PITCH_HIGH_HIGH_HIGH: u8 = 8;
+/// A low click.
+pub const PITCH_LOW_CLICK: u8 = 9;
 
 // ---- where each value stands that a raw call tells beside its number, and how many there are
 

@@ -88,8 +88,8 @@
 //!   does what it does alone, and a second one nothing more.
 //! - A reader's permanent values outlast power-off where [`Reader::control`] is kept and given to
 //!   [`Reader::powered_up`]; every parameter is then to be read, for a blank memory (all FFh, or all 0) has values
-//!   outside their ranges: nothing was kept, and [`Reader::new`] is due. So it is after an update: control values are
-//!   not kept over a change of [`VERSION`]. A hub keeps nothing.
+//!   outside their ranges: nothing was kept, and [`Reader::new`] is due. So it is after an update that moved what stands
+//!   there ([`VERSION`] says which do). A hub keeps nothing.
 
 #![no_std]
 #![warn(missing_docs)]
@@ -118,6 +118,7 @@ pub use reader::{Beep, Reader, ReaderTold, Switches};
 pub use refusal::Refusal;
 pub use sender::{Outcome, Sender};
 
-/// The version of this crate and of the archive, as `MK_VERSION` in C. It rises with each change of what stands where
-/// in a control value, so whoever stores one stores this with it.
+/// The version of this crate and of the archive, as `MK_VERSION` in C. Its first two numbers rise with each change of
+/// what stands where in a control value, the last with every other landing. So whoever stores a control value stores
+/// this with it, and puts it back only where the first two are the same.
 pub const VERSION: &str = env!("CARGO_PKG_VERSION");

@@ -155,7 +155,7 @@ impl Reader {
 
     /// A reader that powers up with the permanent values in control bytes that were kept over a loss of power. Then
     /// read every parameter: if one is outside its range, nothing was kept (a blank memory), and [`Reader::new`] is
-    /// due. So it is where they were kept under another [`VERSION`](crate::VERSION).
+    /// due. So it is where they were kept under a [`VERSION`](crate::VERSION) with other first numbers.
     pub fn powered_up(kept: [u8; READER_CONTROL_SIZE]) -> Self {
         let mut reader = Self::with(kept);
         reader.restart();

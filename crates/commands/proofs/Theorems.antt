@@ -1,16 +1,20 @@
--- The theorems over the commands: what a call tells is what was done, a command is no answer, values stay allowed. Assumes nothing.
-use Prim.Native.Nat.{ℕ}
+-- The theorems over the commands: what a call tells is what was done, a command is no answer, the beep codes are those of the table, values
+-- stay allowed. Assumes nothing.
+use Prim.Native.Nat.{ℕ, zero, suc, _+_, _<_, _≤_}
+use native.Mathlib.Omega.{arith}
 use mathlib.Core.Path.{_≡_, refl}
 use mathlib.Core.Bool.{Bool, true, false}
-use mathlib.Core.List.{List}
-use lib.Dec.{eqb}
-use borrow.Author.Tests.{eqb-true}
-use Rattle.words.specs.Lists.{either}
-use Rattle.words.proofs.Lists.{never}
+use mathlib.Core.List.{List, [], _∷_}
+use lib.Dec.{eqb, ltb}
+use lib.ListN.{length, getD}
+use borrow.Author.Tests.{eqb-true, ltb-true}
+use Rattle.words.specs.Lists.{both, either}
+use Rattle.words.proofs.Lists.{never, both-left, both-right}
 use Rattle.packet.specs.Packet.{isAnswer}
 use Rattle.packet.specs.declared.Refusal.{Refusal}
 use Rattle.table.specs.Table.{defaults}
 use Rattle.table.proofs.Theorems.{AllAllowed, accepted-allowed, at-first, reached-allowed}
+use Rattle.commands.specs.Beeps.{beepRows, beepLimit, rowOf}
 use Rattle.commands.specs.Commands.{DeviceState, namedBy, Acted, denied, acted, judged}
 use Rattle.commands.specs.Promises.{commandedOf}
 use Rattle.commands.specs.declared.Command.{Command}
@@ -39,6 +43,28 @@ unknown-answer o false false e f k = refl
 pub no-answer : (o : ℕ) {k : Command} → namedBy o ≡ Known k → isAnswer o ≡ false
 unfolding isAnswer
 no-answer o k = unknown-answer o (eqb o 0xD0) (eqb o 0xD1) refl refl k
+
+-- ---- beep codes
+
+-- Every row is an allowed code's, and every allowed code has a row.
+pub rows-are-codes : length beepRows ≡ beepLimit + 1
+unfolding beepRows
+rows-are-codes = refl
+
+sounding : List (List ℕ) → Bool
+sounding [] = true
+sounding (row ∷ rows) = both (ltb 0 (getD row 2 0)) (sounding rows)
+
+sounding-at : (rows : List (List ℕ)) (i : ℕ) → sounding rows ≡ true → i < length rows → 0 < getD (getD rows i []) 2 0
+unfolding sounding
+sounding-at [] i e h = omega (arith, h)
+sounding-at (row ∷ rows) zero e h = ltb-true 0 (getD row 2 0) (both-left (ltb 0 (getD row 2 0)) (sounding rows) e)
+sounding-at (row ∷ rows) (suc i) e h = sounding-at rows i (both-right (ltb 0 (getD row 2 0)) (sounding rows) e) (omega (arith, h))
+
+-- An allowed code beeps at least once: so 0 beeps can say that none is reported.
+pub code-sounds : (code : ℕ) → code ≤ beepLimit → 0 < getD (rowOf code) 2 0
+unfolding rowOf beepRows sounding
+code-sounds code h = sounding-at beepRows code refl (omega (arith, rows-are-codes, h))
 
 -- ---- values
 

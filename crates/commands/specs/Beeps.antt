@@ -1,7 +1,7 @@
 -- §13: duration, pitch and number of beeps for each beep code, and which codes are allowed. Durations and pitches are numbered as
 -- the table there first uses them. Durations: 0 short, 1 long, 2 fast warble, 3 slow warble, 4 to 7 mix 1 to mix 4, 8 high click, 9 low click.
 -- Pitches: 0 high, 1 low, 2 high-low-high-low, 3 high-low, 4 low-high, 5 high-low-high, 6 low-high-low, 7 high-high-low-low,
--- 8 high-high-high, 9 low click. The codes above the limit stand here as the table has them.
+-- 8 high-high-high, 9 low click.
 use Prim.Native.Nat.{ℕ}
 use mathlib.Core.Bool.{Bool}
 use mathlib.Core.List.{List, [], _∷_}
@@ -43,9 +43,9 @@ beepRows =
     ∷ (9 ∷ 9 ∷ 1 ∷ [])
     ∷ []
 
--- Codes 00h to 1Ah are allowed.
+-- Codes 00h to 1Dh are allowed.
 abbrev pub beepLimit : ℕ
-beepLimit = 0x1A
+beepLimit = 0x1D
 
 unfoldable pub beepAllowed : ℕ → Bool
 beepAllowed code = leb code beepLimit

@@ -41,7 +41,7 @@ const BEEPS: [[u8; 3]; 30] = [
     [9, 9, 1],
 ];
 // The highest code that is allowed.
-const BEEP_LIMIT: u8 = 0x1A;
+const BEEP_LIMIT: u8 = 0x1D;
 
 // What the commands switch on and off.
 pub struct Switches {

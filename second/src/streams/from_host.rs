@@ -7,7 +7,7 @@ use crate::framer::{Framer, LineEvent};
 use crate::hub::LONGEST_MESSAGE;
 use crate::packet::*;
 use crate::reader::{Reader, ALL, ANSWER_ROOM};
-use crate::table::{ACK_NAK, NO_BEEP, ROWS, TRIGGER};
+use crate::table::{ACK_NAK, HIGHEST_BEEP, NO_BEEP, ROWS, TRIGGER};
 use crate::watch_reader::{ReaderLook, ReaderWatch};
 
 /// Numbers beside the nine, and some of the sources' other ones.
@@ -265,11 +265,22 @@ impl FromHost {
         self.command(opcode, &[]);
     }
 
+    fn good_code(&mut self) -> u8 {
+        self.dice.between(0, usize::from(HIGHEST_BEEP)) as u8
+    }
+
+    /// Neither allowed nor FFh: either end of these, or between them.
+    fn bad_code(&mut self) -> u8 {
+        let (low, high) = (HIGHEST_BEEP + 1, NO_BEEP - 1);
+        let inside = self.dice.between(usize::from(low), usize::from(high)) as u8;
+        self.dice.pick(&[low, high, inside])
+    }
+
     fn beep(&mut self) {
-        let code = match self.dice.weigh(&[75, 15, 10]) {
-            0 => self.dice.below(0x1B) as u8,
-            1 => self.dice.pick(&[0x1B, 0x1C, 0x1D, 0x1E, 0x80, 0xFE, 0xFF]),
-            _ => self.dice.byte(),
+        let code = match self.dice.weigh(&[75, 20, 5]) {
+            0 => self.good_code(),
+            1 => self.bad_code(),
+            _ => NO_BEEP,
         };
         self.command(BEEP, &[code]);
     }
@@ -315,8 +326,8 @@ impl FromHost {
     fn beep_byte(&mut self) -> u8 {
         match self.dice.weigh(&[55, 40, 5]) {
             0 => NO_BEEP,
-            1 => self.dice.below(0x1B) as u8,
-            _ => self.dice.pick(&[0x1B, 0x1C, 0x1D, 0x1E, 0x80, 0xFE]),
+            1 => self.good_code(),
+            _ => self.bad_code(),
         }
     }
 
@@ -429,7 +440,7 @@ impl FromHost {
     fn some_command(&mut self) -> Vec<u8> {
         match self.dice.below(6) {
             0 => self.param_send_packet(),
-            1 => lay_out(BEEP, HOST, 0, &[self.dice.below(0x1B) as u8]),
+            1 => lay_out(BEEP, HOST, 0, &[self.good_code()]),
             2 => lay_out(PARAM_REQUEST, HOST, 0, &[ALL]),
             3 => lay_out(CMD_ACK, HOST, 0, &[]),
             4 => lay_out(self.dice.pick(&[LED_ON, LED_OFF]), HOST, 0, &[1]),

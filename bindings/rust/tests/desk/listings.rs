@@ -18,6 +18,12 @@ A 07 C6 00 00 FF 8A 08 FD A2
 }
 
 #[test]
+fn the_click_for_a_cup_change() {
+    let acted = "G 1 0 0 0\nA 04 D0 00 00 FF 2C\n";
+    assert_eq!(lines("reader", "05 E6 04 00 1C FE F5 ."), format!("B 8 0 1\n{acted}"));
+}
+
+#[test]
 fn a_message_whose_first_copy_is_lost() {
     let due = "C 06 F3 00 00 1B 38 FE B4\nC 06 F3 00 01 1B 38 FE B3\nD 1\n";
     assert_eq!(lines("reader", "S 1B 38 ; T 04 D0 04 00 FF 28 ."), due);

@@ -6,7 +6,7 @@ use motikhund::{Beep, Reader, ReaderTold, Refusal, Switches};
 
 use crate::notation::{command, nak, reader_ack, reader_hears, sent};
 
-/// The allowed codes in order: twenty of one to five beeps, then the seven that are like no other.
+/// The allowed codes in order: twenty of one to five beeps, then the ten that are like no other.
 fn rows() -> Vec<Beep> {
     let plain = [DURATION_SHORT, DURATION_LONG]
         .into_iter()
@@ -20,13 +20,16 @@ fn rows() -> Vec<Beep> {
         (DURATION_MIX_3, PITCH_HIGH_LOW_HIGH, 3),
         (DURATION_MIX_4, PITCH_LOW_HIGH_LOW, 3),
         (DURATION_LONG, PITCH_HIGH_HIGH_LOW_LOW, 4),
+        (DURATION_SHORT, PITCH_HIGH_HIGH_HIGH, 13),
+        (DURATION_HIGH_CLICK, PITCH_HIGH, 1),
+        (DURATION_LOW_CLICK, PITCH_LOW_CLICK, 1),
     ];
     plain.chain(other).map(|(duration, pitch, count)| Beep { duration, pitch, count }).collect()
 }
 
 #[test]
 fn each_code_reports_its_row() {
-    assert_eq!(rows().len(), 0x1B);
+    assert_eq!(rows().len(), 0x1E);
     for (code, row) in (0..).zip(rows()) {
         let sounds = ReaderTold::Acted { beep: Some(row), answer: &reader_ack() };
         for beep in [command(OPCODE_BEEP, &[code]), command(OPCODE_PARAM_SEND, &[code])] {
@@ -38,7 +41,7 @@ fn each_code_reports_its_row() {
 #[test]
 fn other_codes_are_refused() {
     let refused = ReaderTold::Refused { why: Refusal::Beep, answer: &nak(SOURCE_READER, 6) };
-    for code in 0x1B..=0xFF {
+    for code in 0x1E..=0xFF {
         assert_eq!(reader_hears(&mut Reader::new(), &sent(&command(OPCODE_BEEP, &[code]))), refused);
         let silent = ReaderTold::Acted { beep: None, answer: &reader_ack() };
         let told = if code == 0xFF { silent } else { refused };

@@ -249,7 +249,7 @@ fn of_the_reader() {
     let longest = longest();
     let more: [Case; 2] = [
         ("06 C6 04 00 FF 8A FD A7", Refusal::Data, CAUSE_CONTEXT),
-        ("07 C6 04 00 1B 8A 08 FE 82", Refusal::Beep, CAUSE_DENIED),
+        ("07 C6 04 00 1E 8A 08 FE 7F", Refusal::Beep, CAUSE_DENIED),
     ];
     READER_CASES.into_iter().chain(more).for_each(reader_refuses);
     reader_refuses((&longest, Refusal::Checksum, CAUSE_RESEND));

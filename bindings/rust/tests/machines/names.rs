@@ -131,11 +131,11 @@ fn of_the_version() {
     assert_eq!(defined("MK_VERSION_NUMBER"), number.to_string());
 }
 
-/// The version rises with a control value's layout: who changes a line of this table adds one with a new version.
+/// The version's first two numbers rise with a control value's layout: who changes this line changes them too.
 #[test]
 fn of_the_layout() {
-    let (version, sizes, defaults) = ("0.2.0", [9, 29, 35, 83], (26, 35, 44));
-    assert_eq!(VERSION, version);
+    let (layout, sizes, defaults) = ("0.2.", [9, 29, 35, 83], (26, 35, 44));
+    assert!(VERSION.starts_with(layout), "{VERSION}");
     assert_eq!([FRAMER_CONTROL_SIZE, HUB_CONTROL_SIZE, SENDER_CONTROL_SIZE, READER_CONTROL_SIZE], sizes);
     let (present, permanent, switches) = defaults;
     let mut on = [0; READER_CONTROL_SIZE];

@@ -32,7 +32,7 @@ pub const READER_CASES: [Case; 10] = [
     ("05 E6 04 02 01 FF 0E", Refusal::Status, CAUSE_CONTEXT),
     ("06 F3 04 00 1B 38 FE B0", Refusal::Opcode, CAUSE_CONTEXT),
     ("04 E6 04 00 FF 12", Refusal::Data, CAUSE_CONTEXT),
-    ("05 E6 04 00 1B FE F6", Refusal::Beep, CAUSE_DENIED),
+    ("05 E6 04 00 1E FE F3", Refusal::Beep, CAUSE_DENIED),
     ("07 C6 04 00 FF 8A 01 FD A5", Refusal::Setting, CAUSE_DENIED),
 ];
 
