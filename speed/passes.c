@@ -17,10 +17,13 @@ static __attribute__((noinline)) size_t heed_reader(
 }
 
 #define HEED_HUB(told) heed_hub((told).number, (told).answer, (told).code, (told).count)
-#define HEED_READER(told, beep) \
-    heed_reader((told).number, (told).answer, (beep).duration, (beep).pitch, (beep).count, (told).value)
-#define HEED_PROVED_READER(told) HEED_READER(told, (told).beep)
-#define HEED_PEER_READER(told) HEED_READER(told, told)
+// A seventh number would go over the stack: that a permanent value changed goes with the sender's value, since no event
+// brings both.
+#define HEED_READER(told, beep, permanent) \
+    heed_reader( \
+        (told).number, (told).answer, (beep).duration, (beep).pitch, (beep).count, (told).value + (permanent))
+#define HEED_PROVED_READER(told) HEED_READER(told, (told).beep, (told).permanent)
+#define HEED_PEER_READER(told) HEED_READER(told, told, (told).changed)
 
 // No machine: it has an event in a register, as an argument would be, and tells nothing.
 typedef struct {

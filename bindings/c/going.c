@@ -171,6 +171,7 @@ static void readers_hear_alike(uint32_t event)
     CHECK(told.number == number && told.answer == values[MK_READER_VALUE_ANSWER]);
     CHECK(told.beep.duration == values[MK_READER_VALUE_DURATION] && told.beep.pitch == values[MK_READER_VALUE_PITCH]);
     CHECK(told.beep.count == values[MK_READER_VALUE_COUNT] && told.value == values[MK_READER_VALUE_SENT]);
+    CHECK(told.permanent == values[MK_READER_VALUE_PERMANENT]);
 }
 
 static void test_reader(void)
@@ -228,7 +229,7 @@ static void test_first(void)
     CHECK(mk_hub_event(hub, byte).number == MK_NOTHING && mk_reader_event(reader, byte).number == MK_NOTHING);
     CHECK(nothing_changed());
     CHECK(room_hub_hears(byte) == MK_NOTHING && room.hub[HUB_BARRED] == 0);
-    CHECK(room_reader_hears(byte) == MK_NOTHING && room.reader[READER_SWITCHES] == 0);
+    CHECK(room_reader_hears(byte) == MK_NOTHING && room.reader[READER_LOCKS] == 0);
 }
 
 static const test tests[] = {

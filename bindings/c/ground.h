@@ -205,9 +205,12 @@ enum {
     HUB_CODE = 20,
     HUB_COUNT = 21,
     READER_ANSWERED = 18,
+    READER_PRESENT = 26, // the nine values, in the order of their numbers
     READER_ACK_NAK = 32, // the present value of 9Fh
-    READER_SWITCHES = 44,
-    READER_SENDER = 48,
+    READER_PERMANENT = 35,
+    READER_LOCKS = 44, // a flag for each of the nine
+    READER_SWITCHES = 53,
+    READER_SENDER = 57,
     SENDER_OUT = 0,
     SENDER_FAILED = 2,
     SENDER_LENGTH = 3, // then three numbers more
@@ -216,8 +219,10 @@ enum {
 
 // The flags behind the framer's bytes; 0 ends them.
 static const uint8_t hub_flags[] = {LINE_DEAF, LINE_SECOND, HUB_BARRED, HUB_BEGUN, 0};
-static const uint8_t reader_flags[] = {LINE_DEAF, LINE_SECOND, READER_SWITCHES, READER_SWITCHES + 1,
-    READER_SWITCHES + 2, READER_SWITCHES + 3, READER_SENDER + SENDER_OUT, READER_SENDER + SENDER_FAILED, 0};
+static const uint8_t reader_flags[] = {LINE_DEAF, LINE_SECOND, READER_LOCKS, READER_LOCKS + 1, READER_LOCKS + 2,
+    READER_LOCKS + 3, READER_LOCKS + 4, READER_LOCKS + 5, READER_LOCKS + 6, READER_LOCKS + 7, READER_LOCKS + 8,
+    READER_SWITCHES, READER_SWITCHES + 1, READER_SWITCHES + 2, READER_SWITCHES + 3, READER_SENDER + SENDER_OUT,
+    READER_SENDER + SENDER_FAILED, 0};
 
 static inline uint64_t number_at(const uint8_t *at)
 {
@@ -244,7 +249,7 @@ static inline void due_flags(uint8_t *control, const uint8_t *flags)
 
 static struct {
     uint8_t *framer, *hub, *sender, *reader; // control values
-    uint8_t *packet, *line, *gather, *message, *answer, *hub_answer, *answers, *reader_answer, *bytes;
+    uint8_t *packet, *line, *gather, *message, *answer, *hub_answer, *answers, *reader_answer, *set, *bytes;
     size_t *values;
 } room;
 static mk_framer *framer;
@@ -267,12 +272,20 @@ static inline void lay_ground(void)
     room.hub_answer = lend(MK_HUB_ANSWER_SIZE);
     room.answers = lend(MK_READER_ANSWER_SIZE);
     room.reader_answer = lend(MK_READER_ANSWER_SIZE);
+    room.set = lend(MK_SET_SIZE);
     room.bytes = lend(sizeof message);
     room.values = lend(MK_READER_VALUES * sizeof *room.values);
     framer = lend(sizeof *framer);
     hub = lend(sizeof *hub);
     sender = lend(sizeof *sender);
     reader = lend(sizeof *reader);
+}
+
+// What is due is written over what is remembered: so many values are told, the first one, and 0 for the others.
+static inline void due_values(size_t count, size_t first)
+{
+    size_t values[MK_READER_VALUES] = {first};
+    memcpy(was(room.values), values, count * sizeof *values);
 }
 
 static inline void fresh_machines(void)
@@ -302,7 +315,7 @@ static inline mk_reader_told reader_takes(const char *text)
 {
     uint32_t events[EVENTS];
     size_t count = read_events(text, events);
-    mk_reader_told told = {MK_NOTHING, 0, {0, 0, 0}, 0};
+    mk_reader_told told = {MK_NOTHING, 0, {0, 0, 0}, false, 0};
     for (size_t i = 0; i < count; i++) {
         CHECK(told.number == MK_NOTHING && told.answer == 0);
         told = mk_reader_event(reader, events[i]);
@@ -325,7 +338,7 @@ static inline mk_hub_told hub_gets(const uint8_t *packet, size_t size)
 
 static inline mk_reader_told reader_gets(const uint8_t *packet, size_t size)
 {
-    mk_reader_told told = {MK_NOTHING, 0, {0, 0, 0}, 0};
+    mk_reader_told told = {MK_NOTHING, 0, {0, 0, 0}, false, 0};
     CHECK(size <= MK_PACKET_SIZE);
     for (size_t i = 0; i < size && i < MK_PACKET_SIZE; i++) {
         CHECK(told.number == MK_NOTHING && told.answer == 0);
@@ -352,6 +365,7 @@ static inline mk_reader_told command(uint8_t opcode, uint8_t status, const uint8
 #define PIECE "06 F3 00 00 1B 38 FE B4"
 #define MARKED_PIECE "06 F3 00 01 1B 38 FE B3"
 #define EMPTY_PIECE "05 F3 00 00 1B FE ED"
+#define HOUSE_SET "01 09 80 00 89 0A 8A 00 9B 14 9C 06 9E 04 9F 01 ED 00 EE 01 00" // the house defaults, none locked
 
 static inline bool hub_said(mk_hub_told told, uint32_t number, const char *answer)
 {
@@ -374,6 +388,36 @@ static inline mk_outcome of_sender(mk_reader_told told)
     mk_outcome outcome = {told.number, told.value};
     CHECK(told.answer == 0 && told.beep.count == 0);
     return outcome;
+}
+
+// ---- the parameters
+
+// Parameter, lowest, highest, house default.
+static const uint8_t settings[][4] = {
+    {MK_PARAMETER_POWER_MODE, MK_POWER_CONTINUOUS, MK_POWER_LOW, MK_POWER_CONTINUOUS},
+    {MK_PARAMETER_SAME_SYMBOL_TIME, 0, 99, 10},
+    {MK_PARAMETER_TRIGGER, MK_TRIGGER_LEVEL, MK_TRIGGER_HOST, MK_TRIGGER_LEVEL},
+    {MK_PARAMETER_RESPONSE_TIME_OUT, 0, 99, 20},
+    {MK_PARAMETER_BAUD, MK_BAUD_300, MK_BAUD_19200, MK_BAUD_9600},
+    {MK_PARAMETER_PARITY, MK_PARITY_ODD, MK_PARITY_NONE, MK_PARITY_NONE},
+    {MK_PARAMETER_ACK_NAK, MK_ACK_NAK_OFF, MK_ACK_NAK_ON, MK_ACK_NAK_ON},
+    {MK_PARAMETER_AIM_DURATION, 0, 99, 0},
+    {MK_PARAMETER_PACKETED_DATA, MK_DATA_RAW, MK_DATA_PACKETED, MK_DATA_PACKETED},
+};
+
+static inline bool is_allowed(size_t row, unsigned value)
+{
+    if (settings[row][0] == MK_PARAMETER_TRIGGER)
+        return value == MK_TRIGGER_LEVEL || value == MK_TRIGGER_PULSE || value == MK_TRIGGER_CONTINUOUS
+            || value == MK_TRIGGER_BLINKING || value == MK_TRIGGER_HOST;
+    return value >= settings[row][1] && value <= settings[row][2];
+}
+
+// A PARAM_SEND of one pair: what it brings.
+static inline uint32_t set(uint8_t status, uint8_t number, unsigned value)
+{
+    uint8_t data[] = {0xFF, number, (uint8_t)value};
+    return command(MK_OPCODE_PARAM_SEND, status, data, sizeof data).number;
 }
 
 // ---- all tests of a program

@@ -151,7 +151,7 @@ static void sleep_for(int64_t time)
 // Starts it, with its words before the device.
 static void begin(program *it, int input, const char *const *before)
 {
-    const char *words[12] = {path, it->name};
+    const char *words[16] = {path, it->name};
     size_t count = 2;
     int output[2];
     open_terminal(it);
@@ -1025,6 +1025,111 @@ static void commands(void)
     expect_status(&the_reader, 1);
 }
 
+// The file that stands for flash, beside the program.
+static const char *set_file(void)
+{
+    static char name[FILENAME_MAX];
+    snprintf(name, sizeof name, "%s.set", path);
+    return name;
+}
+
+static void put_set(const char *text)
+{
+    uint8_t form[EVENTS];
+    size_t size = read_bytes(text, form);
+    FILE *file = fopen(set_file(), "wb");
+    if (file == NULL || fwrite(form, 1, size, file) != size || fclose(file) != 0)
+        stop("line: no file for the set");
+}
+
+static void expect_set(const char *text)
+{
+    uint8_t form[EVENTS];
+    FILE *file = fopen(set_file(), "rb");
+    size_t size = file == NULL ? 0 : fread(form, 1, sizeof form, file);
+    if (file != NULL)
+        fclose(file);
+    if (!reads(form, size, text))
+        rule(WRONG, "the set that is kept is not %s but%s", text, hex(form, size));
+}
+
+// Its input stays open until what it gives is closed.
+static int start_keeper(const char *tenths)
+{
+    const char *const words[] = {WORDS, "--time-out", tenths, "--set", set_file(), NULL};
+    int input[2];
+    if (pipe(input) != 0)
+        stop("line: no pipe");
+    fcntl(input[1], F_SETFD, FD_CLOEXEC);
+    forget_lines();
+    start(&the_reader, input[0], words);
+    close(input[0]);
+    silent_since = now();
+    return input[1];
+}
+
+static void ask_values(int input, const char *line)
+{
+    if (write(input, "U", 1) != 1)
+        rule(WRONG, "the reader's input takes nothing");
+    hear_line(&the_reader, line);
+}
+
+static void end_keeper(int input)
+{
+    close(input);
+    expect_status(&the_reader, 0);
+    finish(&the_reader);
+}
+
+// A value set for ever is kept, one set for now is not. At the next start the set holds, and not the options.
+static void kept_set(void)
+{
+    remove(set_file());
+    int input = start_keeper("20");
+    put_text(&the_reader, "07 C6 04 00 FF ED 05 FD 3E");
+    hear_packet(&the_reader, READER_ACK, 0, SECOND);
+    hear_line(&the_reader, "G 1 0 0 0");
+    hear_line(&the_reader, "A " READER_ACK);
+    expect_set("");
+    sleep_for(2 * GAP);
+    put_text(&the_reader, "07 C6 04 08 FF 8A 08 FD 96");
+    hear_packet(&the_reader, READER_ACK, GAP, SECOND);
+    hear_line(&the_reader, "G 1 0 0 0");
+    hear_line(&the_reader, "A " READER_ACK);
+    expect_set("01 09 80 00 89 0A 8A 08 9B 14 9C 06 9E 04 9F 01 ED 00 EE 01 00");
+    end_keeper(input);
+    input = start_keeper("8");
+    ask_values(input, "U 00 0A 08 14 06 04 01 00 01");
+    end_keeper(input);
+}
+
+// Locks hold from the start. The set's baud rate is that of the port, where BAUD is another that 9Ch has.
+static void locked_set(void)
+{
+    go_slow();
+    speed = B19200; // which the start waits for
+    put_set("01 09 80 00 89 0A 8A 08 9B 14 9C 07 9E 04 9F 01 ED 00 EE 01 01 8A");
+    int input = start_keeper("8");
+    ask_values(input, "U 00 0A 08 14 07 04 01 00 01");
+    put_text(&the_reader, "07 C6 04 08 FF 8A 00 FD 9E");
+    hear_packet(&the_reader, READER_NAK_6, 0, SECOND);
+    hear_line(&the_reader, "R 9");
+    hear_line(&the_reader, "A " READER_NAK_6);
+    end_keeper(input);
+}
+
+// What is no set is left as it is, and the first values hold.
+static void no_set(void)
+{
+    put_set("01 09 80 00");
+    int input = start_keeper("8");
+    ask_values(input, "U 00 0A 00 08 06 04 01 00 01");
+    end_keeper(input);
+    expect_set("01 09 80 00");
+    remove(set_file());
+}
+
 // A card that is too long is refused, and the next one sent.
 static void long_card(void)
 {
@@ -1081,7 +1186,8 @@ static void run_part(const part *it, uint64_t first_seed)
 
 int main(int count, char **words)
 {
-    static const part alone[] = {{"commands", commands}, {"a long card", long_card}, {"no line", no_line},
+    static const part alone[] = {{"commands", commands}, {"a kept set", kept_set}, {"a locked set", locked_set},
+        {"no set", no_set}, {"a long card", long_card}, {"no line", no_line},
         {"ACKs that do not count", acks_that_do_not_count}, {"equal cards", equal_cards}, {"a late hub", late_hub}};
     static const part over = {"200 cards", cards_over_the_line};
     if (count != 3)

@@ -36,7 +36,7 @@
 // - The interrupt puts what came into a queue, in order, and the main loop gives it to the machine. The plain way.
 // - The interrupt makes every call of this machine itself and hands on what was told, with a copy of the bytes that it
 //   names: the next event may write over them. Then the main loop calls nothing of this machine, or does so with that
-//   interrupt masked: mk_reader_send, mk_reader_expire and mk_reader_parameter too.
+//   interrupt masked: mk_reader_send, mk_reader_expire, mk_reader_parameter and mk_reader_save too.
 //
 // mk_go_on in the interrupt and the other calls in the main loop is wrong on one machine: the interrupt may come while
 // the main loop is inside a call, and an event that mk_go_on left must be taken before any later one. It becomes right
@@ -66,10 +66,11 @@
 // - MK_DELIVERED: the hub has the message. MK_FAILED: it may have it all the same, and only its answers were lost.
 // - A silence that grows may be given again. A second character gap does nothing. A message gap behind a character gap
 //   does what it does alone, and a second message gap nothing more. So a timer that fires twice does no harm.
-// - A reader's permanent values outlast power-off where you keep the bytes of its control value. Put them back, power
-//   up, and read every parameter: if one is outside its range, as in a memory that is blank (all FFh, or all 0),
-//   nothing was kept, and mk_reader_on is due. So it is after an update of the library that moved what stands there
-//   (MK_VERSION says which do). A hub keeps nothing.
+// - A reader's permanent values and locks outlast power-off as a saved set, 21 to 30 bytes: mk_reader_save whenever an
+//   event tells that a permanent value changed, and after each mk_reader_load that brought a new set; at switch-on
+//   mk_reader_init, then mk_reader_load. A memory that is blank (all FFh, or all 0) is MK_FORM, and the house defaults
+//   stay. A set is not bound to MK_VERSION, as a control value is. It has no checksum of its own: where the power may
+//   fail while it is written, keep two, each with a checksum. A hub keeps nothing.
 #ifndef MOTIKHUND_H
 #define MOTIKHUND_H
 
@@ -81,8 +82,8 @@
 // with each change of what stands where in a control value, the patch with every other landing. So whoever stores a
 // control value stores MK_VERSION_NUMBER with it, and puts it back only where MK_VERSION_NUMBER / 100 is the same;
 // else it is initialised anew.
-#define MK_VERSION "0.2.1"
-#define MK_VERSION_NUMBER 201
+#define MK_VERSION "0.3.0"
+#define MK_VERSION_NUMBER 300
 
 #ifdef __cplusplus
 #define MK_ASSERT(truth, why) static_assert(truth, why)
@@ -104,7 +105,7 @@ enum {
     MK_FRAMER_CONTROL_SIZE = 9,  // a framer's control value
     MK_HUB_CONTROL_SIZE = 29,    // a hub's
     MK_SENDER_CONTROL_SIZE = 35, // a sender's
-    MK_READER_CONTROL_SIZE = 83, // a reader's
+    MK_READER_CONTROL_SIZE = 92, // a reader's
     MK_GOING_SIZE = 10,          // the front of a hub's or a reader's, for mk_go_on
     MK_PACKET_SIZE = 257,        // the longest packet with its checksum: building, a framer's line, a copy
     MK_LINE_SIZE = 514,          // the line of hub and reader: the packet that comes in, and the last accepted one
@@ -112,6 +113,7 @@ enum {
     MK_ANSWER_SIZE = 7,          // the longest ACK or NAK
     MK_HUB_ANSWER_SIZE = 7,      // a hub's answer room
     MK_READER_ANSWER_SIZE = 25,  // a reader's longest answer: a PARAM_SEND with all nine parameters
+    MK_SET_SIZE = 30,            // the longest form of a saved set: all nine parameters are locked
     MK_DATA_SIZE = 251           // the most data in a packet
 };
 
@@ -140,9 +142,10 @@ enum {
     MK_OPCODE = 6,    // an opcode unknown to this side; NAK 2
     MK_DATA = 7,      // a data length wrong for the opcode; NAK 2
     MK_BEEP = 8,      // a beep code that is not allowed; NAK 6
-    MK_SETTING = 9,   // a parameter or value that is not allowed; NAK 6
+    MK_SETTING = 9,   // a parameter or value that is not allowed, or a parameter that is locked; NAK 6
     MK_BARRED = 10,   // hub: another type inside a message, or too long; then all decode data to a message gap; NAK 6
     MK_START = 11,    // sender: a message over 4,096 bytes, or one still out; no answer
+    MK_FORM = 12,     // reader: bytes that are not the form of a set, or one with a value not allowed; no answer
     MK_ROOM = 13      // something is lent too small: nothing is changed, and the event is not taken; no answer
 };
 
@@ -150,7 +153,7 @@ enum {
 enum {
     MK_NOTHING = 0,     // nothing to tell
     MK_PACKET = 100,    // a packet was found
-    MK_WRITTEN = 101,   // a packet was written
+    MK_WRITTEN = 101,   // a packet or a set was written
     MK_ADDED = 110,     // hub: a piece was added to the message
     MK_REPEATED = 111,  // a resend of what was accepted already: answered again, and nothing else done
     MK_MESSAGE = 112,   // hub: a message is whole
@@ -305,13 +308,14 @@ enum {
 };
 // Of mk_reader_hear:
 enum {
-    MK_READER_VALUE_ANSWER = 0,   // so many bytes of the answer room are to be sent
-    MK_READER_VALUE_DURATION = 1, // MK_ACTED: the beep's, MK_DURATION_..
-    MK_READER_VALUE_PITCH = 2,    // MK_ACTED: the beep's, MK_PITCH_..
-    MK_READER_VALUE_COUNT = 3,    // MK_ACTED: how many beeps; 0: none
-    MK_READER_VALUE_SENT = 4,     // MK_COPY: so many bytes of the copy room are to be sent
-                                  // MK_DELIVERED, MK_FAILED: the message's marked copies
-    MK_READER_VALUES = 5
+    MK_READER_VALUE_ANSWER = 0,    // so many bytes of the answer room are to be sent
+    MK_READER_VALUE_DURATION = 1,  // MK_ACTED: the beep's, MK_DURATION_..
+    MK_READER_VALUE_PITCH = 2,     // MK_ACTED: the beep's, MK_PITCH_..
+    MK_READER_VALUE_COUNT = 3,     // MK_ACTED: how many beeps; 0: none
+    MK_READER_VALUE_SENT = 4,      // MK_COPY: so many bytes of the copy room are to be sent
+                                   // MK_DELIVERED, MK_FAILED: the message's marked copies
+    MK_READER_VALUE_PERMANENT = 5, // MK_ACTED: 1 where a permanent value changed, so that it is time to save; else 0
+    MK_READER_VALUES = 6
 };
 // Of mk_reader_switches, each 1 or 0:
 enum {
@@ -328,11 +332,11 @@ enum {
 // one: a flag's byte that is not 1 is read as not set, a count that a buffer cannot have as 0. Where a call asks for a
 // size, more may be lent; bytes past what is written stay as they were.
 //
-// With MK_ROOM and MK_START nothing is changed but the numbers told (head, size, value, values), which are 0; they are
-// 0 too where a result has none. With any other refusal of an event only its answer, the byte that came in the line,
-// and the control value are written: the packet begun has ended, MK_LENGTH and MK_CHECKSUM make deaf, MK_BARRED bars
-// the hub with nothing gathered, and all else in it stays as it was read (so a flag's byte that was neither 0 nor 1 is
-// written as 0).
+// With MK_ROOM, MK_START and MK_FORM nothing is changed but the numbers told (head, size, value, values), which are 0;
+// they are 0 too where a result has none. With any other refusal of an event only its answer, the byte that came in the
+// line, and the control value are written: the packet begun has ended, MK_LENGTH and MK_CHECKSUM make deaf, MK_BARRED
+// bars the hub with nothing gathered, and all else in it stays as it was read (so a flag's byte that was neither 0 nor
+// 1 is written as 0).
 //
 // An event above MK_MESSAGE_GAP changes nothing at all and tells MK_NOTHING, with values of 0. So does a reply above
 // MK_REPLY_ACK. MK_ROOM is tested before, as at every call.
@@ -408,8 +412,8 @@ uint32_t mk_sender_heed(uint8_t opcode, uint8_t source, uint8_t status, const ui
 // first message. MK_NOTHING, or MK_ROOM.
 uint32_t mk_reader_on(uint8_t *control, size_t control_len);
 
-// Power-up: parameters get their permanent values, and all that came or was out is forgotten, also whether the message
-// before failed: so a message gap is due before the first message after it. MK_NOTHING, or MK_ROOM.
+// Power-up: parameters get their permanent values, locks stay, and all that came or was out is forgotten, also whether
+// the message before failed: so a message gap is due before the first message after it. MK_NOTHING, or MK_ROOM.
 uint32_t mk_reader_power_up(uint8_t *control, size_t control_len);
 
 // As mk_sender_start, by the reader's sender.
@@ -427,6 +431,21 @@ uint32_t mk_reader_time_out(uint8_t *control, size_t control_len, const uint8_t 
 uint32_t mk_reader_hear(uint8_t *control, size_t control_len, uint8_t line[MK_LINE_SIZE],
     uint8_t answers[MK_READER_ANSWER_SIZE], const uint8_t message[MK_MESSAGE_SIZE], uint8_t *answer, size_t answer_len,
     uint8_t *copy, size_t copy_len, uint32_t event, size_t values[MK_READER_VALUES]);
+
+// Writes the permanent values and the locks as the form of a set, at the front of a room of MK_SET_SIZE: byte 1; byte 9
+// and nine pairs of parameter and value; how many are locked, and which; parameters always in rising order. So it has
+// 21 bytes and one more for each that is locked, and each set has one form. MK_WRITTEN and its size; or MK_ROOM.
+uint32_t mk_reader_save(const uint8_t *control, size_t control_len, uint8_t *room, size_t room_len, size_t *size);
+
+// Reads the form of a set, of just so many bytes. MK_NOTHING: its values are the permanent and the present ones, its
+// locks the only ones, and the last accepted packet is forgotten, so that a marked repeat of it is a command like any
+// other. All else stays: a packet begun, a message out, what is switched on. Nothing goes out on the line. Or, in this
+// order, MK_FORM; MK_ROOM.
+uint32_t mk_reader_load(uint8_t *control, size_t control_len, const uint8_t *form, size_t form_len);
+
+// Whether a parameter is locked, 1 or 0; 0 where there is no such parameter. Only a set locks and unlocks. A PARAM_SEND
+// that names a locked one is MK_SETTING, and PARAM_DEFAULTS leaves it both its values. MK_NOTHING, or MK_ROOM.
+uint32_t mk_reader_locked(const uint8_t *control, size_t control_len, uint8_t number, size_t *value);
 
 // The present value of a parameter, 0 where there is no such parameter. MK_NOTHING, or MK_ROOM.
 uint32_t mk_reader_value(const uint8_t *control, size_t control_len, uint8_t number, size_t *value);
@@ -564,7 +583,8 @@ static inline bool mk_sender_out(const mk_sender *sender)
     return mk_sender_waits(sender->control, sizeof sender->control) == MK_OUT;
 }
 
-// The reader's whole end: framer, commands with the parameters, sender. 5,000 bytes.
+// The reader's whole end: framer, commands with the parameters, sender. 5,009 bytes. mk_reader_save, mk_reader_load and
+// mk_reader_locked take its control value as it stands here.
 typedef struct {
     uint8_t control[MK_READER_CONTROL_SIZE];
     uint8_t line[MK_LINE_SIZE];
@@ -573,7 +593,7 @@ typedef struct {
     uint8_t answer[MK_READER_ANSWER_SIZE]; // to be sent: so many bytes as told
     uint8_t copy[MK_PACKET_SIZE];          // MK_COPY: the packet to be sent
 } mk_reader;
-MK_ASSERT(sizeof(mk_reader) == 5000 && MK_ALIGNMENT(mk_reader) == 1, "mk_reader");
+MK_ASSERT(sizeof(mk_reader) == 5009 && MK_ALIGNMENT(mk_reader) == 1, "mk_reader");
 
 // A sound to be made; with a count of 0 there is none.
 typedef struct {
@@ -587,6 +607,7 @@ typedef struct {
     uint32_t number; // MK_ACTED, MK_REPEATED, MK_COPY, MK_DELIVERED, MK_FAILED, MK_NOTHING or a refusal
     size_t answer;   // so many bytes of reader.answer are to be sent
     mk_beep beep;    // MK_ACTED: the sound to be made
+    bool permanent;  // MK_ACTED: a permanent value changed, so that it is time for mk_reader_save
     size_t value;    // MK_COPY: so many bytes of reader.copy are to be sent
                      // MK_DELIVERED, MK_FAILED: the message's marked copies
 } mk_reader_told;
@@ -601,14 +622,14 @@ typedef struct {
 } mk_switches;
 MK_ASSERT(sizeof(mk_switches) == 4, "mk_switches");
 
-// The house defaults, nothing out. A message gap is due before the first message.
+// The house defaults, nothing locked, nothing out. A message gap is due before the first message.
 static inline void mk_reader_init(mk_reader *reader)
 {
     mk_reader_on(reader->control, sizeof reader->control);
 }
 
-// Power-up: the permanent values of the parameters come back, all else is as new. A message gap is due before the first
-// message after it.
+// Power-up: the permanent values of the parameters come back, locks stay, all else is as new. A message gap is due
+// before the first message after it.
 static inline void mk_reader_restart(mk_reader *reader)
 {
     mk_reader_power_up(reader->control, sizeof reader->control);
@@ -616,7 +637,7 @@ static inline void mk_reader_restart(mk_reader *reader)
 
 static inline mk_reader_told mk_reader_event(mk_reader *reader, uint32_t event)
 {
-    mk_reader_told told = {MK_NOTHING, 0, {0, 0, 0}, 0};
+    mk_reader_told told = {MK_NOTHING, 0, {0, 0, 0}, false, 0};
     if (mk_go_on(reader->control, reader->line, event))
         return told;
     size_t values[MK_READER_VALUES];
@@ -626,6 +647,7 @@ static inline mk_reader_told mk_reader_event(mk_reader *reader, uint32_t event)
     told.beep.duration = (uint8_t)values[MK_READER_VALUE_DURATION];
     told.beep.pitch = (uint8_t)values[MK_READER_VALUE_PITCH];
     told.beep.count = (uint8_t)values[MK_READER_VALUE_COUNT];
+    told.permanent = values[MK_READER_VALUE_PERMANENT] == 1;
     told.value = values[MK_READER_VALUE_SENT];
     return told;
 }

@@ -1,7 +1,7 @@
 // Tests of all that is refused, through motikhund.h: which refusal, its answer, and every lent byte afterwards.
-// On 11 and 13 no lent byte changes but the values told, which are 0. On 1 to 10 these change and no other: the values,
-// the answer at the front of its room, the byte that came in its place in the line, and the control value as the rules
-// have it (docs/PROTOCOL.md §6).
+// On 11 to 13 no lent byte changes but the values told, which are 0 (12 is in sets.c). On 1 to 10 these change and no
+// other: the values, the answer at the front of its room, the byte that came in its place in the line, and the control
+// value as the rules have it (docs/PROTOCOL.md §6).
 #include "ground.h"
 
 // ---- the ground before a call: garbage of several kinds everywhere
@@ -23,15 +23,6 @@ static void name_case(const char *call, uint32_t number, unsigned fill)
     static char name[64];
     snprintf(name, sizeof name, "%s: refusal %u, garbage %02X", call, (unsigned)number, fill);
     testing = name;
-}
-
-// ---- the ground that is due after it, written over what is remembered
-
-// So many values are told: the first one, and 0 for the others.
-static void due_values(size_t count, size_t first)
-{
-    size_t values[MK_READER_VALUES] = {first};
-    memcpy(was(room.values), values, count * sizeof *values);
 }
 
 // ---- rooms (13): whatever is lent too small
@@ -115,6 +106,24 @@ static uint32_t reader_hear_in(const size_t *size)
         room.packet, size[2], room_event, room.values);
 }
 
+static uint32_t reader_save_in(const size_t *size)
+{
+    return mk_reader_save(room.reader, size[0], room.set, size[1], room.values);
+}
+
+// The form is right, as it is judged before the room.
+static uint32_t reader_load_in(const size_t *size)
+{
+    uint8_t form[EVENTS];
+    size_t count = read_bytes(HOUSE_SET, form);
+    return mk_reader_load(room.reader, size[0], form, count);
+}
+
+static uint32_t reader_locked_in(const size_t *size)
+{
+    return mk_reader_locked(room.reader, size[0], MK_PARAMETER_BAUD, room.values);
+}
+
 static uint32_t reader_value_in(const size_t *size)
 {
     return mk_reader_value(room.reader, size[0], MK_PARAMETER_BAUD, room.values);
@@ -150,6 +159,9 @@ static const asking askings[] = {
     {"mk_reader_time_out", reader_time_out_in, {MK_READER_CONTROL_SIZE, MK_PACKET_SIZE, 0}, 1},
     {"mk_reader_hear", reader_hear_in, {MK_READER_CONTROL_SIZE, MK_READER_ANSWER_SIZE, MK_PACKET_SIZE},
         MK_READER_VALUES},
+    {"mk_reader_save", reader_save_in, {MK_READER_CONTROL_SIZE, MK_SET_SIZE, 0}, 1},
+    {"mk_reader_load", reader_load_in, {MK_READER_CONTROL_SIZE, 0, 0}, 0},
+    {"mk_reader_locked", reader_locked_in, {MK_READER_CONTROL_SIZE, 0, 0}, 1},
     {"mk_reader_value", reader_value_in, {MK_READER_CONTROL_SIZE, 0, 0}, 1},
     {"mk_reader_switches", reader_switches_in, {MK_READER_CONTROL_SIZE, 0, 0}, MK_SWITCH_VALUES},
 };
@@ -255,6 +267,11 @@ static void set_full(uint8_t *control)
     put_number(control + HUB_COUNT, MK_MESSAGE_SIZE);
 }
 
+static void set_locked(uint8_t *control)
+{
+    control[READER_LOCKS + 2] = 1; // 8Ah is the third
+}
+
 // A message of one byte is out, not yet resent.
 static void set_out(uint8_t *control)
 {
@@ -353,6 +370,7 @@ static const refusal reader_refusals[] = {
     {MK_BEEP, "05 E6 04 00 1E FE F3", READER_NAK_6, NULL},
     {MK_BEEP, "07 C6 04 00 1E 8A 08 FE 7F", READER_NAK_6, NULL},
     {MK_SETTING, "07 C6 04 00 FF 8A 01 FD A5", READER_NAK_6, NULL},
+    {MK_SETTING, "07 C6 04 00 FF 8A 00 FD A6", READER_NAK_6, set_locked},
 };
 
 // All events but the last have come: their bytes stand in the half that receives. Where there are none, the count stays
@@ -409,6 +427,8 @@ static void hub_refuses(const refusal *due)
 // No NAK goes out where 9Fh is not 1, and none for 1 to 3 while a message is out.
 static void reader_refuses(const refusal *due, bool out)
 {
+    if (due->set != NULL)
+        due->set(room.reader);
     if (out)
         set_out(room.reader + READER_SENDER);
     uint32_t event = come(room.reader, receiving_half(room.reader), due->events);
@@ -558,6 +578,8 @@ static void test_reader_refusals(void)
     for (size_t i = 0; i < COUNT(reader_refusals); i++) {
         const refusal *due = &reader_refusals[i];
         fresh_machines();
+        if (due->set != NULL)
+            due->set(reader->control);
         CHECK(reader_said(reader_takes(due->events), due->number, due->answer));
         CHECK(stays(reader->copy, 0, sizeof reader->copy) && guards_stand());
     }

@@ -12,7 +12,8 @@
 // - A reader hears nothing while it sends, and what came in one lump with an ACK is no answer to the next copy.
 // - When the last byte of what was written is out is reckoned from the baud rate: write returns long before that, and a
 //   wait for the driver (tcdrain) may return after the answer has come.
-// - The answer is sent first; lines are written behind it, as a terminal or a pipe may hold them up.
+// - The answer is sent first; lines are written behind it, as a terminal or a pipe may hold them up. So is the saved
+//   set, as flash is slow.
 #define _POSIX_C_SOURCE 200809L
 #define _DEFAULT_SOURCE // mark and space parity and rates above 38,400, where the system has them
 
@@ -50,6 +51,9 @@ static const char help[] =
     "                     its host may change; at the hub that of its reader\n"
     "    --gap MS         the character gap\n"
     "    --delay MS       the longest that either end may take to act on what came (500)\n"
+    "    --set FILE       reader: where its saved set is kept. A set that is there at the start holds, and\n"
+    "                     not BAUD and the options for 9Bh and 9Eh; it is written when a value is set for\n"
+    "                     ever\n"
     "\n"
     "CARDS\n"
     "\n"
@@ -124,6 +128,7 @@ static struct {
     uint8_t time_out; // of 9Bh: the reader's first one; at the hub that of its reader
     int64_t gap;      // 0: reckoned
     int64_t delay;
+    const char *set;  // the file that stands for flash; NULL: nothing outlasts this run
 } asked = {.rate = {9600, B9600, MK_BAUD_9600}, .parity = MK_PARITY_NONE, .time_out = 20, .delay = 500 * MS};
 
 // ---- how long (docs/PROTOCOL.md §15)
@@ -544,6 +549,23 @@ static void acted_lines(mk_beep beep)
     printf("G %d %d %d %d\n", on.scanning, on.session, on.aim, on.led);
 }
 
+// A form has no checksum, so flash never holds half of an old one and half of a new one: the new one is written whole
+// beside the old one and takes its place at once.
+static void keep_set(void)
+{
+    uint8_t form[MK_SET_SIZE];
+    char fresh[FILENAME_MAX];
+    size_t size;
+    mk_reader_save(reader.control, sizeof reader.control, form, sizeof form, &size);
+    bool fits = (size_t)snprintf(fresh, sizeof fresh, "%s.new", asked.set) < sizeof fresh;
+    FILE *file = fits ? fopen(fresh, "wb") : NULL;
+    bool written = file != NULL && fwrite(form, 1, size, file) == size && fflush(file) == 0 && fsync(fileno(file)) == 0;
+    if (file != NULL && fclose(file) != 0)
+        written = false;
+    if (!written || rename(fresh, asked.set) != 0)
+        say("%s cannot be written, and keeps what it has: %s", asked.set, strerror(errno));
+}
+
 static void reader_takes(uint32_t event)
 {
     mk_reader_told told = mk_reader_event(&reader, event);
@@ -554,6 +576,8 @@ static void reader_takes(uint32_t event)
         bytes_line('A', reader.answer, told.answer);
         reader_sends(reader.answer, told.answer);
     }
+    if (told.permanent && asked.set != NULL)
+        keep_set();
     reader_sent((mk_outcome){told.number, told.value});
     follow_port();
     flush_lines();
@@ -738,7 +762,24 @@ static void take_input(void)
 
 // ---- the reader's loop
 
-// The first values of 9Bh, 9Ch and 9Eh, set as its host would set them for ever; then it is as just switched on.
+// What flash holds; no set (MK_FORM) changes nothing, so the first values stay. One byte more is read than a form can
+// have, so that a longer file is refused.
+static void take_set(void)
+{
+    uint8_t form[MK_SET_SIZE + 1];
+    FILE *file = fopen(asked.set, "rb");
+    if (file == NULL && errno == ENOENT) // blank
+        return;
+    if (file == NULL)
+        FAIL("%s cannot be read: %s", asked.set, strerror(errno));
+    size_t size = fread(form, 1, sizeof form, file);
+    fclose(file);
+    if (mk_reader_load(reader.control, sizeof reader.control, form, size) == MK_FORM)
+        say("%s holds no set: refusal %d", asked.set, MK_FORM);
+}
+
+// The first values of 9Bh, 9Ch and 9Eh, set as its host would set them for ever; then it is as just switched on. A set
+// that was kept holds instead of all nine.
 static void init_reader(void)
 {
     const uint8_t data[] = {0xFF, MK_PARAMETER_RESPONSE_TIME_OUT, asked.time_out, MK_PARAMETER_PARITY, asked.parity,
@@ -753,6 +794,9 @@ static void init_reader(void)
     mk_reader_restart(&reader);
     followed.baud = parameter(MK_PARAMETER_BAUD);
     followed.parity = parameter(MK_PARAMETER_PARITY);
+    if (asked.set != NULL)
+        take_set();
+    follow_port();
 }
 
 static int64_t reader_waits_until(void)
@@ -844,6 +888,8 @@ static void read_option(const char *name, const char *value)
         asked.gap = read_number(value, 1, 10000) * MS;
     else if (strcmp(name, "--delay") == 0)
         asked.delay = read_number(value, 10, 60000) * MS;
+    else if (strcmp(name, "--set") == 0)
+        asked.set = value;
     else
         refuse_usage();
 }
@@ -873,6 +919,8 @@ int main(int count, char **words)
     if (!is_hub && (count < 2 || strcmp(words[1], "reader") != 0))
         refuse_usage();
     read_words(words + 2);
+    if (is_hub && asked.set != NULL) // a hub has no parameters
+        refuse_usage();
     catch_signals();
     open_device();
     if (is_hub)

@@ -1,5 +1,6 @@
 // Tests of the archive through motikhund.h: garbage, small cases worked by hand, both ends with the story of sample 8
-// (give it examples/88.txt), the reader's commands. All that is random is seeded. What is refused is in refused.c.
+// (give it examples/88.txt), the reader's commands. All that is random is seeded. What is refused is in refused.c, the
+// saved set in sets.c.
 #include "chatter.h"
 
 // ---- garbage: random control values and buffers, then random events. Each machine runs twice, by its calls with
@@ -240,6 +241,9 @@ static void garbage_reader_event(sights *told, uint32_t event)
     CHECK(other.beep.duration == duration && other.beep.pitch == pitch && other.beep.count == count);
     CHECK(duration <= MK_DURATION_LOW_CLICK && pitch <= MK_PITCH_LOW_CLICK && count <= 13);
     CHECK(number == MK_ACTED || count == 0);
+    bool changed = memcmp(room.reader + READER_PERMANENT, was(room.reader) + READER_PERMANENT, COUNT(settings)) != 0;
+    CHECK(room.values[MK_READER_VALUE_PERMANENT] == changed && other.permanent == changed);
+    CHECK(number == MK_ACTED || !changed);
     CHECK(stays(room.reader_answer, answer, MK_READER_ANSWER_SIZE));
     bool of_sender = number == MK_COPY || number == MK_DELIVERED || number == MK_FAILED;
     CHECK(of_sender ? answer == 0 : room.values[MK_READER_VALUE_SENT] == 0);
@@ -248,7 +252,24 @@ static void garbage_reader_event(sights *told, uint32_t event)
     garbage_sent(told, number, sent, 0);
 }
 
-static void garbage_reader(sights *told, sights *sent, chatter *talk)
+// The set written, and read again as it is or with a byte changed. What it must be is in sets.c.
+static void garbage_set(sights *sets)
+{
+    uint8_t form[MK_SET_SIZE];
+    size_t size;
+    uint32_t saved = mk_reader_save(room.reader, MK_READER_CONTROL_SIZE, room.set, MK_SET_SIZE, room.values);
+    CHECK(mk_reader_save(reader->control, sizeof reader->control, form, sizeof form, &size) == saved);
+    CHECK(size == room.values[0] && size >= 21 && size <= MK_SET_SIZE && memcmp(room.set, form, size) == 0);
+    CHECK(stays(room.set, size, MK_SET_SIZE));
+    if (below(4) == 0)
+        form[below(size)] ^= (uint8_t)(1 << below(8));
+    uint32_t loaded = mk_reader_load(room.reader, MK_READER_CONTROL_SIZE, form, size);
+    CHECK(mk_reader_load(reader->control, sizeof reader->control, form, size) == loaded);
+    see(sets, saved);
+    see(sets, loaded);
+}
+
+static void garbage_reader(sights *told, sights *sent, sights *sets, chatter *talk)
 {
     size_t chance = below(32), count = any_count();
     uint8_t code = any_byte(), number = pick(parameters, COUNT(parameters));
@@ -264,17 +285,23 @@ static void garbage_reader(sights *told, sights *sent, chatter *talk)
     } else if (chance == 2 && below(4) == 0) {
         CHECK(mk_reader_power_up(room.reader, MK_READER_CONTROL_SIZE) == MK_NOTHING);
         mk_reader_restart(reader);
+    } else if (chance == 3) {
+        garbage_set(sets);
     } else {
         garbage_reader_event(told, next_event(talk));
     }
     CHECK(mk_reader_value(room.reader, MK_READER_CONTROL_SIZE, number, room.values) == MK_NOTHING);
     CHECK(mk_reader_parameter(reader, number) == room.values[0]);
+    size_t locked;
+    CHECK(mk_reader_locked(room.reader, MK_READER_CONTROL_SIZE, number, room.values) == MK_NOTHING);
+    CHECK(mk_reader_locked(reader->control, sizeof reader->control, number, &locked) == MK_NOTHING);
+    CHECK(locked == room.values[0] && locked <= 1);
     CHECK(guards_stand());
 }
 
 static void test_garbage_reader(void)
 {
-    sights told = {{0}}, sent = {{0}};
+    sights told = {{0}}, sent = {{0}}, sets = {{0}};
     twin twins[] = {
         {room.reader, reader->control, sizeof reader->control, reader_flags},
         {room.line, reader->line, sizeof reader->line, NULL},
@@ -288,13 +315,14 @@ static void test_garbage_reader(void)
         any_start(room.reader, MK_READER_CONTROL_SIZE, mk_reader_on);
         make_twins(twins, COUNT(twins));
         for (int j = 0; j < ROUND_EVENTS; j++) {
-            garbage_reader(&told, &sent, &talk);
+            garbage_reader(&told, &sent, &sets, &talk);
             CHECK(are_twins(twins, COUNT(twins)));
         }
     }
     saw(&told, (const uint8_t[]){MK_NOTHING, MK_LENGTH, MK_CHECKSUM, MK_CUT, MK_SOURCE, MK_STATUS, MK_OPCODE, MK_DATA,
         MK_BEEP, MK_SETTING, MK_REPEATED, MK_ACTED, MK_COPY, MK_DELIVERED, MK_FAILED}, 15);
     saw(&sent, (const uint8_t[]){MK_NOTHING, MK_START, MK_COPY, MK_FAILED}, 4);
+    saw(&sets, (const uint8_t[]){MK_NOTHING, MK_FORM, MK_WRITTEN}, 3);
 }
 
 // Each init makes the control value that its call makes, and touches nothing else.
@@ -611,35 +639,13 @@ static void test_beeps(void)
     }
 }
 
-// Parameter, lowest, highest, house default.
-static const uint8_t settings[][4] = {
-    {MK_PARAMETER_POWER_MODE, MK_POWER_CONTINUOUS, MK_POWER_LOW, MK_POWER_CONTINUOUS},
-    {MK_PARAMETER_SAME_SYMBOL_TIME, 0, 99, 10},
-    {MK_PARAMETER_TRIGGER, MK_TRIGGER_LEVEL, MK_TRIGGER_HOST, MK_TRIGGER_LEVEL},
-    {MK_PARAMETER_RESPONSE_TIME_OUT, 0, 99, 20},
-    {MK_PARAMETER_BAUD, MK_BAUD_300, MK_BAUD_19200, MK_BAUD_9600},
-    {MK_PARAMETER_PARITY, MK_PARITY_ODD, MK_PARITY_NONE, MK_PARITY_NONE},
-    {MK_PARAMETER_ACK_NAK, MK_ACK_NAK_OFF, MK_ACK_NAK_ON, MK_ACK_NAK_ON},
-    {MK_PARAMETER_AIM_DURATION, 0, 99, 0},
-    {MK_PARAMETER_PACKETED_DATA, MK_DATA_RAW, MK_DATA_PACKETED, MK_DATA_PACKETED},
-};
-
-static uint32_t set(uint8_t status, uint8_t number, unsigned value)
-{
-    uint8_t data[] = {0xFF, number, (uint8_t)value};
-    return command(MK_OPCODE_PARAM_SEND, status, data, sizeof data).number;
-}
-
 static void test_settings(void)
 {
     for (size_t i = 0; i < COUNT(settings); i++) {
         uint8_t number = settings[i][0], house = settings[i][3];
         CHECK(mk_reader_parameter(reader, number) == house);
         for (unsigned value = 0; value < 256; value++) {
-            bool allowed = value >= settings[i][1] && value <= settings[i][2];
-            if (number == MK_PARAMETER_TRIGGER)
-                allowed = value == MK_TRIGGER_LEVEL || value == MK_TRIGGER_PULSE || value == MK_TRIGGER_CONTINUOUS
-                    || value == MK_TRIGGER_BLINKING || value == MK_TRIGGER_HOST;
+            bool allowed = is_allowed(i, value);
             uint8_t present = mk_reader_parameter(reader, number);
             CHECK(set(0, number, value) == (allowed ? MK_ACTED : MK_SETTING));
             CHECK(mk_reader_parameter(reader, number) == (allowed ? value : present));

@@ -312,7 +312,7 @@ fn shortened(line: &[u8]) -> String {
 // No difference.
 
 /// Number, meaning, and whether each program, in the order of `SIDES`, can reach it.
-const REFUSALS: [(usize, &str, [bool; 3]); 12] = [
+const REFUSALS: [(usize, &str, [bool; 3]); 13] = [
     (1, "length below 4", [true; 3]),
     (2, "checksum wrong", [true; 3]),
     (3, "cut by a gap", [true; 3]),
@@ -324,6 +324,7 @@ const REFUSALS: [(usize, &str, [bool; 3]); 12] = [
     (9, "parameter or value not allowed", [false, false, true]),
     (10, "hub: barred, other type, too long", [true, true, false]),
     (11, "sender: too long, or one still out", [false, false, true]),
+    (12, "form of a saved set not right", [false, false, true]),
     (13, "lent room too small", [false, true, true]),
 ];
 

@@ -3,6 +3,7 @@
 
 pub mod compare;
 mod dice;
+pub mod form;
 pub mod framer;
 pub mod hub;
 pub mod line;
@@ -20,3 +21,4 @@ mod tests;
 mod watch_hub;
 mod watch_reader;
 mod watch_room;
+mod watch_sets;

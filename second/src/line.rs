@@ -10,12 +10,14 @@ use std::thread;
 use std::time::{Duration, Instant};
 
 use crate::dice::Dice;
+use crate::form;
 use crate::framer::{Framed, Framer, LineEvent};
 use crate::hub::{Message, LONGEST_MESSAGE};
 use crate::listing::{push_bytes, Listing, Side};
 use crate::packet::{lay_out, written, CHECKSUM, CMD_ACK, DECODE_DATA, HEADER, MARK, MORE, READER};
 use crate::program::{said, Programs};
 use crate::streams::{open_stream, spoiled, Kind};
+use crate::table::Table;
 
 pub const MESSAGES: u64 = 10_000;
 /// After so many messages both ends get noise and are brought back to the state that the demand starts from.
@@ -266,7 +268,7 @@ impl Wire {
     }
 
     /// Noise at both ends, then full rooms, a message gap at the hub and, at the reader, nothing out, nothing begun,
-    /// 9Fh on.
+    /// 9Fh on and no lock.
     fn new_round(&mut self) -> Result<(), Breach> {
         let events = self.dice.between(1, 400) as u64;
         let (kind, calm) = match self.hub.side {
@@ -277,7 +279,9 @@ impl Wire {
         text.extend_from_slice(calm);
         self.hub.tell(&text)?;
         let mut text = open_stream(Kind::DeskReader, self.dice.next(), events).text;
-        text.extend_from_slice(b" K FF FF ; P 04 C8 04 00 FF 30 .\n");
+        text.extend_from_slice(b" K FF FF ; P L");
+        push_bytes(&form::save(&Table::house_defaults()), &mut text);
+        text.extend_from_slice(b" ;\n");
         self.reader.tell(&text)?;
         self.previous = None;
         self.weather = self.dice.pick(&WEATHERS);

@@ -29,6 +29,10 @@ enum Token {
     Show,
     /// The size of the answer room from here on.
     Room(usize),
+    /// The saved set is to be written.
+    Save,
+    /// The form of a saved set, or at most the first 4,098 bytes of what is far too long for one.
+    Load(Vec<u8>),
 }
 
 #[derive(Clone, PartialEq, Eq, Debug)]
@@ -99,7 +103,8 @@ impl Tokeniser {
             (Side::DeskReader, b'T') => Scanned::Token(Token::TimeOut),
             (Side::DeskReader, b'P') => Scanned::Token(Token::PowerUp),
             (Side::DeskReader, b'U') => Scanned::Token(Token::Show),
-            (Side::DeskReader, b'S') | (Side::DeskReader | Side::DeskHub, b'K') => {
+            (Side::DeskReader, b'W') => Scanned::Token(Token::Save),
+            (Side::DeskReader, b'S' | b'L') | (Side::DeskReader | Side::DeskHub, b'K') => {
                 self.open = Some(Open { letter, bytes: Vec::new() });
                 Scanned::Nothing
             }
@@ -119,6 +124,7 @@ impl Open {
         match (self.letter, &self.bytes[..]) {
             (b'K', [high, low]) => Scanned::Token(Token::Room(usize::from(*high) * 256 + usize::from(*low))),
             (b'S', [_, ..]) => Scanned::Token(Token::Start(self.bytes)),
+            (b'L', _) => Scanned::Token(Token::Load(self.bytes)),
             _ => Scanned::Wrong,
         }
     }
@@ -202,6 +208,11 @@ impl Listing {
             }
             (Machine::Reader(reader), Token::PowerUp) => reader.power_up(),
             (Machine::Reader(reader), Token::Show) => push_byte_line(b'U', Some(&reader.table().present), lines),
+            (Machine::Reader(reader), Token::Save) => push_byte_line(b'W', Some(&reader.save()), lines),
+            (Machine::Reader(reader), Token::Load(form)) => match reader.load(form) {
+                Ok(()) => push_number_line(b'L', &[], lines),
+                Err(refusal) => push_number_line(b'R', &[refusal.number()], lines),
+            },
         }
     }
 }

@@ -50,7 +50,7 @@ pub const CHECKSUM: usize = 2;
 pub const MOST_DATA: usize = 255 - HEADER;
 pub const LONGEST: usize = 255 + CHECKSUM;
 
-/// The refusal numbers that this program gives. Number 12 is unused.
+/// The refusal numbers that this program gives.
 #[derive(Clone, Copy, PartialEq, Eq, Debug)]
 pub enum Refusal {
     Length = 1,
@@ -64,6 +64,7 @@ pub enum Refusal {
     Parameter = 9,
     Hub = 10,
     Sender = 11,
+    Form = 12,
     Room = 13,
 }
 

@@ -1,5 +1,6 @@
 //! The reader's whole end of the line: framer, command side with its table, and sender.
 
+use crate::form;
 use crate::framer::{Framed, Framer, LineEvent};
 use crate::packet::*;
 use crate::sender::{End, Sender, Sent};
@@ -36,6 +37,8 @@ pub struct Step {
     pub refusal: Option<Refusal>,
     pub beep: Option<Beep>,
     pub switches: Option<Switches>,
+    /// A permanent value is another one now, so that the firmware should save it.
+    pub changed: bool,
     pub answer: Option<Vec<u8>>,
     pub copy: Option<Vec<u8>>,
     pub end: Option<End>,
@@ -79,6 +82,19 @@ impl Reader {
         *self = Reader { table, ..Reader::new() };
     }
 
+    /// The form of the permanent values and the locks.
+    pub fn save(&self) -> Vec<u8> {
+        form::save(&self.table)
+    }
+
+    /// Takes a saved set, or refuses its form and changes nothing. The last accepted packet belongs to the table that
+    /// was: it is forgotten, and the line and the sender go on as they are.
+    pub fn load(&mut self, form: &[u8]) -> Result<(), Refusal> {
+        self.table = form::load(form).map_err(|_| Refusal::Form)?;
+        self.last = None;
+        Ok(())
+    }
+
     /// An event with an answer room of this size. Where that is too small, it is as if nothing had come.
     pub fn take_in_room(&mut self, event: LineEvent, room: usize) -> Step {
         if room < ANSWER_ROOM {
@@ -116,7 +132,7 @@ impl Reader {
     fn packet(&mut self, packet: Packet) -> Step {
         let step = if packet.is_answer() {
             told(self.sender.answer(&packet))
-        } else if let Err(refusal) = judge(&packet) {
+        } else if let Err(refusal) = judge(&packet, &self.table) {
             Step { refusal: Some(refusal), answer: self.nak(refusal), ..Step::default() }
         } else {
             self.command(&packet)
@@ -140,9 +156,11 @@ impl Reader {
             PARAM_REQUEST => Some(self.asked_for(packet.data())),
             _ => self.table.handshaking().then(|| ack(READER)),
         };
+        let before = self.table.permanent;
         let beep = self.act(packet);
+        let changed = self.table.permanent != before;
         self.last = Some(Accepted { body, answer: answer.clone() });
-        Step { beep, switches: Some(self.switches), answer, ..Step::default() }
+        Step { beep, switches: Some(self.switches), changed, answer, ..Step::default() }
     }
 
     fn act(&mut self, packet: &Packet) -> Option<Beep> {
@@ -153,7 +171,7 @@ impl Reader {
                 return beep(data[0]);
             }
             BEEP => return beep(data[0]),
-            PARAM_DEFAULTS => self.table = Table::house_defaults(),
+            PARAM_DEFAULTS => self.table.defaults(),
             START_SESSION => self.switches.session |= self.switches.enabled,
             STOP_SESSION => self.switches.session = false,
             SCAN_ENABLE => self.switches.enabled = true,
@@ -222,7 +240,7 @@ fn told(sent: Sent) -> Step {
 }
 
 /// Refusals 4 to 9, in rising order.
-fn judge(packet: &Packet) -> Result<(), Refusal> {
+fn judge(packet: &Packet, table: &Table) -> Result<(), Refusal> {
     packet.judge_header(HOST, known)?;
     let data = packet.data();
     if !length_right(packet.opcode(), data.len()) {
@@ -230,16 +248,17 @@ fn judge(packet: &Packet) -> Result<(), Refusal> {
     }
     match packet.opcode() {
         BEEP if beep(data[0]).is_none() => Err(Refusal::Beep),
-        PARAM_SEND => judge_parameters(data),
+        PARAM_SEND => judge_parameters(data, table),
         _ => Ok(()),
     }
 }
 
-fn judge_parameters(data: &[u8]) -> Result<(), Refusal> {
+fn judge_parameters(data: &[u8], table: &Table) -> Result<(), Refusal> {
     if data[0] != NO_BEEP && beep(data[0]).is_none() {
         return Err(Refusal::Beep);
     }
-    if data[1..].chunks_exact(2).all(|pair| allowed(pair[0], pair[1])) {
+    // A lock keeps even the value that there is from being sent.
+    if data[1..].chunks_exact(2).all(|pair| allowed(pair[0], pair[1]) && !table.locked(pair[0])) {
         Ok(())
     } else {
         Err(Refusal::Parameter)

@@ -20,6 +20,8 @@ const TRIGGERS: [u8; 5] = [0, 2, 4, 7, 8];
 pub struct Table {
     pub present: [u8; ROWS.len()],
     pub permanent: [u8; ROWS.len()],
+    /// They come with a saved set and with nothing else.
+    pub locks: [bool; ROWS.len()],
 }
 
 pub fn place(number: u8) -> Option<usize> {
@@ -38,7 +40,17 @@ pub fn allowed(number: u8, value: u8) -> bool {
 impl Table {
     pub fn house_defaults() -> Table {
         let defaults = ROWS.map(|row| row[3]);
-        Table { present: defaults, permanent: defaults }
+        Table { present: defaults, permanent: defaults, locks: [false; ROWS.len()] }
+    }
+
+    /// The house defaults for every parameter that is not locked.
+    pub fn defaults(&mut self) {
+        for (place, [_, _, _, default]) in ROWS.into_iter().enumerate() {
+            if !self.locks[place] {
+                self.present[place] = default;
+                self.permanent[place] = default;
+            }
+        }
     }
 
     /// The pair has been judged before.
@@ -50,10 +62,15 @@ impl Table {
         }
     }
 
+    pub fn locked(&self, number: u8) -> bool {
+        place(number).is_some_and(|place| self.locks[place])
+    }
+
     pub fn present(&self, number: u8) -> Option<u8> {
         place(number).map(|place| self.present[place])
     }
 
+    /// The locks stay.
     pub fn power_up(&mut self) {
         self.present = self.permanent;
     }

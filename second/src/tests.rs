@@ -1,5 +1,6 @@
 //! The packets of docs/PROTOCOL.md (§2, §17), of the published guides, and the readings of the open points.
 
+use crate::form::{self, Fault};
 use crate::framer::{Framed, Framer, LineEvent};
 use crate::listing::{output, Side};
 use crate::packet::*;
@@ -505,6 +506,234 @@ fn wrong_characters_stop_the_program() {
     assert_eq!(reader("S\r\n1b38\n;T"), "C 06 F3 00 00 1B 38 FE B4\nC 06 F3 00 01 1B 38 FE B3\n");
 }
 
+// Saved sets.
+
+const HOUSE_SET: &str = "W 01 09 80 00 89 0A 8A 00 9B 14 9C 06 9E 04 9F 01 ED 00 EE 01 00\n";
+/// In the order of the table; 9Fh alone has its house default.
+const OTHERS: [u8; ROWS.len()] = [1, 99, 8, 0, 1, 0, 1, 99, 0];
+
+/// These values, with these numbers locked.
+fn set_of(values: [u8; ROWS.len()], locked: &[u8]) -> Vec<u8> {
+    let locks = ROWS.map(|row| locked.contains(&row[0]));
+    form::save(&Table { present: values, permanent: values, locks })
+}
+
+/// `L` with its bytes.
+fn form_text(form: &[u8]) -> String {
+    let mut text = Vec::new();
+    crate::listing::push_bytes(form, &mut text);
+    format!("L{} ; ", String::from_utf8(text).expect("digits"))
+}
+
+/// The line that writing the set prints.
+fn set_line(form: &[u8]) -> String {
+    form_text(form).replace('L', "W").replace(" ; ", "\n")
+}
+
+#[test]
+fn a_set_is_written_and_read_back() {
+    assert_eq!(reader("W"), HOUSE_SET);
+    let form = set_of(OTHERS, &[0x89, 0xEE]);
+    assert_eq!(form, bytes("01 09 80 01 89 63 8A 08 9B 00 9C 01 9E 00 9F 01 ED 63 EE 00 02 89 EE"));
+    assert_eq!(
+        reader(&format!("{} W U", form_text(&form))),
+        format!("L\n{}U 01 63 08 00 01 00 01 63 00\n", set_line(&form))
+    );
+    // From no lock to all: 21 to 30 bytes, each set with a form of its own.
+    for locked in 0..=ROWS.len() {
+        let numbers: Vec<u8> = ROWS.iter().take(locked).map(|row| row[0]).collect();
+        let form = set_of(OTHERS, &numbers);
+        assert_eq!(form.len(), 21 + locked);
+        assert_eq!(form::load(&form).map(|table| form::save(&table)), Ok(form));
+    }
+}
+
+#[test]
+fn every_choice_of_locks_comes_back() {
+    for bits in 0..1 << ROWS.len() {
+        let locks = std::array::from_fn(|place| bits >> place & 1 == 1);
+        let table = Table { present: OTHERS, permanent: OTHERS, locks };
+        assert_eq!(form::load(&form::save(&table)), Ok(table));
+    }
+}
+
+#[test]
+fn the_permanent_values_are_written() {
+    let for_now = sent(PARAM_SEND, HOST, 0, &[0xFF, 0x89, 5]);
+    let for_ever = sent(PARAM_SEND, HOST, PERMANENT, &[0xFF, 0x89, 99]);
+    assert_eq!(reader_after(&for_now, "W"), HOUSE_SET);
+    assert_eq!(reader_after(&(for_ever + &for_now), "W"), HOUSE_SET.replace("89 0A", "89 63"));
+}
+
+#[test]
+fn a_form_not_exactly_so_is_12() {
+    let form = set_of(OTHERS, &[0x89, 0xEE]);
+    let fault = |place: usize, byte: u8| {
+        let mut form = form.clone();
+        form[place] = byte;
+        form::load(&form).expect_err("not a form")
+    };
+    assert_eq!([fault(0, 0), fault(0, 2)], [Fault::Edition; 2]);
+    assert_eq!([fault(1, 8), fault(1, 10)], [Fault::Count; 2]);
+    for (place, [number, low, high, _]) in ROWS.into_iter().enumerate() {
+        assert_eq!(fault(2 + 2 * place, number + 1), Fault::Number(place));
+        assert_eq!(fault(3 + 2 * place, high + 1), Fault::Value(place));
+        assert!(low == 0 || fault(3 + 2 * place, low - 1) == Fault::Value(place));
+    }
+    for between in [1, 3, 5, 6] {
+        assert_eq!(fault(7, between), Fault::Value(2));
+    }
+    // One lock fewer than follow, one more, and more than there can be.
+    assert_eq!([fault(20, 1), fault(20, 3), fault(20, 10)], [Fault::Late, Fault::Early, Fault::LockCount]);
+    // No parameter, the same twice, and falling.
+    assert_eq!(
+        [fault(21, 0x81), fault(21, 0xEE), fault(22, 0x80)],
+        [Fault::LockNumber, Fault::LockOrder, Fault::LockOrder]
+    );
+    assert_eq!([fault(22, 0x89), fault(22, 0xFF)], [Fault::LockOrder, Fault::LockNumber]);
+}
+
+#[test]
+fn a_form_has_one_length() {
+    for locked in [&[][..], &[0x9C], &[0x80, 0x89, 0x8A, 0x9B, 0x9C, 0x9E, 0x9F, 0xED, 0xEE]] {
+        let form = set_of(OTHERS, locked);
+        for size in 0..=40 {
+            let mut other = form.clone();
+            other.resize(size, 0xEE);
+            assert_eq!(form::load(&other).is_ok(), size == form.len(), "{size}");
+        }
+    }
+    assert_eq!(reader("L ; L 01 ; L"), "R 12\nR 12\n");
+}
+
+/// In a form, byte by byte, exactly those are taken that are written again as they stand.
+#[test]
+fn what_is_taken_is_what_would_be_written() {
+    let form = set_of(OTHERS, &[0x80, 0x9E, 0xED]);
+    for place in 0..form.len() {
+        for byte in 0..=255 {
+            let mut other = form.clone();
+            other[place] = byte;
+            assert!(form::load(&other).map_or(true, |table| form::save(&table) == other));
+        }
+    }
+}
+
+#[test]
+fn a_refused_form_changes_nothing() {
+    let set = form_text(&set_of(OTHERS, &[0x89, 0xEE]));
+    let mut bad = set_of([0, 10, 0, 20, 6, 4, 1, 0, 1], &[0x80]);
+    bad.push(0);
+    let beep = sent(BEEP, HOST, 0, &[1]);
+    let state = format!("{set} {beep}");
+    assert_eq!(
+        reader_after(&state, &format!("{} W", form_text(&bad))),
+        format!("R 12\n{}", set_line(&set_of(OTHERS, &[0x89, 0xEE])))
+    );
+    // The last accepted packet neither.
+    assert_eq!(reader_after(&format!("{state} {}", form_text(&bad)), &sent(BEEP, HOST, MARK, &[1])), READER_ACK);
+}
+
+#[test]
+fn a_set_makes_the_last_packet_forgotten() {
+    let beep = sent(BEEP, HOST, 0, &[1]);
+    let again = sent(BEEP, HOST, MARK, &[1]);
+    let acted = format!("B 0 0 2\n{QUIET}{READER_ACK}");
+    let set = form_text(&set_of(OTHERS, &[]));
+    assert_eq!(reader_after(&format!("{beep} {set}"), &again), acted);
+    // And then it is the last one once more.
+    assert_eq!(reader_after(&format!("{beep} {set} {again}"), &again), READER_ACK);
+}
+
+#[test]
+fn old_locks_do_not_hold_against_a_set() {
+    let all: Vec<u8> = ROWS.iter().map(|row| row[0]).collect();
+    let locked = form_text(&set_of(OTHERS, &all));
+    let house = set_of(Table::house_defaults().permanent, &[]);
+    assert_eq!(reader_after(&locked, &format!("{} W", form_text(&house))), format!("L\n{HOUSE_SET}"));
+}
+
+#[test]
+fn a_locked_parameter_is_not_sent() {
+    let set = form_text(&set_of(OTHERS, &[0x89, 0xEE]));
+    let denied = format!("R 9\n{READER_NAK_6}");
+    for status in [0, PERMANENT] {
+        // Another value, the one it has, and beside a free one.
+        for data in [&[0xFF, 0x89, 10][..], &[0xFF, 0x89, 99], &[0xFF, 0x80, 0, 0x89, 10], &[0xFF, 0xEE, 1, 0x80, 0]] {
+            let lines = reader_after(&set, &(sent(PARAM_SEND, HOST, status, data) + "W U"));
+            assert_eq!(
+                lines,
+                format!("{denied}{}U 01 63 08 00 01 00 01 63 00\n", set_line(&set_of(OTHERS, &[0x89, 0xEE])))
+            );
+        }
+    }
+    // The length and the beep byte come first.
+    assert_eq!(reader_after(&set, &sent(PARAM_SEND, HOST, 0, &[0x1E, 0x89])), format!("R 7\n{READER_NAK_2}"));
+    assert_eq!(reader_after(&set, &sent(PARAM_SEND, HOST, 0, &[0x1E, 0x89, 99])), format!("R 8\n{READER_NAK_6}"));
+    // Free ones are set as ever, and asking is free.
+    assert_eq!(reader_after(&set, &sent(PARAM_SEND, HOST, 0, &[0xFF, 0x80, 0])), format!("{QUIET}{READER_ACK}"));
+    assert_eq!(reader_after(&set, "05 C7 04 00 89 FE A7"), format!("{QUIET}A 07 C6 00 00 FF 89 63 FD 48\n"));
+}
+
+#[test]
+fn the_defaults_pass_over_what_is_locked() {
+    let defaults = "04 C8 04 00 FF 30 . ";
+    let acted = format!("{QUIET}{READER_ACK}");
+    let some = form_text(&set_of(OTHERS, &[0x89, 0xEE]));
+    let mixed = set_of([0, 99, 0, 20, 6, 4, 1, 0, 0], &[0x89, 0xEE]);
+    let after = format!("{acted}U 00 63 00 14 06 04 01 00 00\n{}", set_line(&mixed));
+    assert_eq!(reader_after(&some, &format!("{defaults} U W")), after);
+    let all: Vec<u8> = ROWS.iter().map(|row| row[0]).collect();
+    let locked = set_of(OTHERS, &all);
+    assert_eq!(reader_after(&form_text(&locked), &format!("{defaults} W")), format!("{acted}{}", set_line(&locked)));
+    // 9Fh locked off stays off: no answer, nor to the next.
+    let off = form_text(&set_of([0, 10, 0, 20, 6, 4, 0, 0, 1], &[0x9F]));
+    assert_eq!(reader_after(&off, &defaults.repeat(2)), QUIET.repeat(2));
+}
+
+#[test]
+fn power_up_keeps_the_locks() {
+    let set = set_of(OTHERS, &[0x89, 0xEE]);
+    let for_now = sent(PARAM_SEND, HOST, 0, &[0xFF, 0x80, 0]);
+    let lines = reader_after(&format!("{} {for_now} P", form_text(&set)), "W U");
+    assert_eq!(lines, format!("{}U 01 63 08 00 01 00 01 63 00\n", set_line(&set)));
+    let named = sent(PARAM_SEND, HOST, 0, &[0xFF, 0x89, 99]);
+    assert_eq!(reader_after(&format!("{} P P", form_text(&set)), &named), format!("R 9\n{READER_NAK_6}"));
+}
+
+#[test]
+fn a_set_leaves_line_and_sender_alone() {
+    let set = form_text(&set_of(OTHERS, &[0x89, 0xEE]));
+    // Inside a packet, while deaf, with a message out; W too.
+    assert_eq!(reader_after(&format!("04 E9 04 {set} W 00 FF"), "0F"), format!("{QUIET}{READER_ACK}"));
+    assert_eq!(reader_after(&format!("03 {set} W"), "03 . 03"), format!("R 1\n{READER_NAK_1}"));
+    assert_eq!(reader_after(&format!("{} T {set}", start(1)), "T T"), "C 06 F3 00 01 1B 38 FE B3\nF 2\n");
+    // Nor are the switches changed.
+    let on = "04 EA 04 00 FF 0E . 04 C5 04 00 FF 33 . 05 E7 04 00 01 FF 0F . ";
+    assert_eq!(reader_after(&format!("{on} {set}"), "04 C5 04 00 FF 33"), format!("G 0 0 1 1\n{READER_ACK}"));
+    // No answer room is needed.
+    assert_eq!(
+        reader(&format!("K 00 00 ; {set} L ; W")),
+        format!("L\nR 12\n{}", set_line(&set_of(OTHERS, &[0x89, 0xEE])))
+    );
+}
+
+#[test]
+fn it_is_told_where_a_permanent_value_changed() {
+    use crate::reader::Reader;
+    let changed = |reader: &mut Reader, packet: &[u8]| {
+        packet.iter().map(|byte| reader.take(LineEvent::Byte(*byte)).changed).any(|changed| changed)
+    };
+    let mut reader = Reader::new();
+    let (five, ten) = ([0xFF, 0x89, 5], [0xFF, 0x89, 10]);
+    assert!(!changed(&mut reader, &lay_out(PARAM_SEND, HOST, 0, &five)));
+    assert!(!changed(&mut reader, &lay_out(PARAM_SEND, HOST, PERMANENT, &ten)));
+    assert!(changed(&mut reader, &lay_out(PARAM_SEND, HOST, PERMANENT, &five)));
+    assert!(!changed(&mut reader, &lay_out(PARAM_SEND, HOST, PERMANENT | MARK, &five)));
+    assert!(changed(&mut reader, &lay_out(PARAM_DEFAULTS, HOST, 0, &[])));
+    assert!(!changed(&mut reader, &lay_out(PARAM_DEFAULTS, HOST, 0, &[])));
+}
+
 // Desk's own.
 
 #[test]
@@ -591,8 +820,6 @@ fn a_room_has_two_pairs() {
         "V",
         "Q",
         "H",
-        "W",
-        "L",
         "I",
         "Y",
         "R",
@@ -605,7 +832,7 @@ fn a_room_has_two_pairs() {
         assert_eq!(desk_hub(unended), "");
         assert_eq!(reader(unended), "");
     }
-    for (wrong, right) in [("U", "K\r\n0006\n;"), ("T", ""), ("P", ""), ("S 1B ;", "")] {
+    for (wrong, right) in [("U", "K\r\n0006\n;"), ("T", ""), ("P", ""), ("S 1B ;", ""), ("W", ""), ("L ;", "")] {
         assert_eq!(desk_hub(wrong), "E\n");
         assert_eq!(desk_hub(right), "");
     }
@@ -666,11 +893,16 @@ fn a_difference_is_shrunk() {
         output(Side::DeskReader, text).ends_with(b"R 13\n")
     });
     assert_eq!(small, b"K 00 07 ; 06");
+    let taken = form_text(&set_of([0, 10, 0, 20, 6, 4, 1, 0, 1], &[0x80]));
+    let small = crate::shrink::shrink(format!("05 . L 00 ; {taken} 03 {taken}").as_bytes(), &mut |text| {
+        output(Side::DeskReader, text).ends_with(b"L\n")
+    });
+    assert_eq!(small, taken.trim().as_bytes());
 }
 
 #[test]
 fn every_character_is_tried_in_every_state() {
-    for (side, states) in [(Side::Hub, 2), (Side::DeskHub, 10), (Side::DeskReader, 14)] {
+    for (side, states) in [(Side::Hub, 2), (Side::DeskHub, 10), (Side::DeskReader, 18)] {
         let every = crate::streams::every_text(side);
         for character in 0..=255 {
             assert!(every.iter().filter(|text| text.contains(&character)).count() >= states, "{character}");

@@ -8,11 +8,12 @@ use crate::sender::End;
 use crate::sights::{bit_alone, Name, Sights};
 use crate::table::{place, Table, ACK_NAK, HIGHEST_BEEP, NO_BEEP, ROWS, TRIGGER};
 use crate::watch_room::{FramerLook, RoomWatch, ROOM_NAMES};
+use crate::watch_sets::{SetWatch, SET_NAMES};
 
 /// How many beep codes are allowed.
 const CODES: usize = HIGHEST_BEEP as usize + 1;
 
-const NAMES: [Name; 77] = [
+const NAMES: [Name; 79] = [
     ("command acted on, each opcode", 12),
     ("command acted on while the sender waits", 1),
     ("command acted on with 9Fh off, each opcode", 12),
@@ -55,7 +56,9 @@ const NAMES: [Name; 77] = [
     ("resent equal twice", 1),
     ("marked, unlike the last, acted on", 1),
     ("unmarked equal of the last, acted on", 1),
-    ("resent equal after a power-up, acted on", 1),
+    (AFTER_POWER_UP, 1),
+    (AFTER_SET, 1),
+    ("resent equal after a refused set", 1),
     ("START_SESSION while disabled", 1),
     ("SCAN_DISABLE in a session", 1),
     ("LED_ON or LED_OFF without bit 0", 2),
@@ -92,8 +95,11 @@ const NAMES: [Name; 77] = [
     ("data length refused, each opcode", 12),
 ];
 
+const AFTER_POWER_UP: &str = "resent equal after a power-up, acted on";
+const AFTER_SET: &str = "resent equal after a set, acted on";
+
 /// What the streams with desk's own tokens are for.
-const DESK_NAMES: [Name; 9] = [
+const DESK_NAMES: [Name; 10] = [
     ("13 while a message is out", 1),
     ("13 with 9Fh off", 1),
     ("start in a room too small for answers", 1),
@@ -103,6 +109,7 @@ const DESK_NAMES: [Name; 9] = [
     ("values shown after a power-up brought others back", 1),
     ("values shown inside a packet, while deaf, while a message is out", 3),
     ("values shown in a room too small for answers", 1),
+    ("set taken, refused, saved in a room too small for answers", 3),
 ];
 
 fn opcode_place(opcode: u8) -> usize {
@@ -112,12 +119,12 @@ fn opcode_place(opcode: u8) -> usize {
 /// What can be seen of the reader before an event.
 #[derive(Clone, Copy)]
 pub struct ReaderLook {
-    table: Table,
+    pub table: Table,
     switches: Switches,
-    waits: bool,
+    pub waits: bool,
     resends: usize,
     size: usize,
-    framer: FramerLook,
+    pub framer: FramerLook,
 }
 
 impl ReaderLook {
@@ -138,16 +145,19 @@ struct Last {
     body: Vec<u8>,
     handshaking: (bool, bool),
     refused_since: bool,
+    set_refused: bool,
     repeated: bool,
 }
 
 pub struct ReaderWatch {
     pub sights: Sights,
     last: Option<Last>,
-    /// The last accepted packet before the power-up, until another is accepted.
-    forgotten: Option<Vec<u8>>,
+    /// The last accepted packet before what made the reader forget it, until another is accepted; with what is seen
+    /// where it comes again.
+    forgotten: Option<(Vec<u8>, &'static str)>,
     joined: bool,
     room: RoomWatch,
+    sets: SetWatch,
     /// The answer room is too small.
     small: bool,
     /// A power-up has changed present values, and they were not shown since.
@@ -158,11 +168,12 @@ impl ReaderWatch {
     pub fn new(desk: bool) -> ReaderWatch {
         let desks = ROOM_NAMES.iter().chain(&DESK_NAMES).filter(|_| desk);
         ReaderWatch {
-            sights: Sights::new(NAMES.iter().chain(desks)),
+            sights: Sights::new(NAMES.iter().chain(&SET_NAMES).chain(desks)),
             last: None,
             forgotten: None,
             joined: false,
             room: RoomWatch::default(),
+            sets: SetWatch::default(),
             small: false,
             brought_back: false,
         }
@@ -182,9 +193,13 @@ impl ReaderWatch {
         if let Some(refusal) = step.refusal {
             self.refused(before, refusal, step);
         }
-        let Some(packet) = &step.packet else {
-            return;
-        };
+        if let Some(packet) = &step.packet {
+            self.packet(before, packet, step, reader);
+        }
+        self.sets.line(reader.framer().begun() > 0);
+    }
+
+    fn packet(&mut self, before: ReaderLook, packet: &Packet, step: &Step, reader: &Reader) {
         if packet.is_answer() {
             self.answer(before, packet, step);
         } else if step.repeated {
@@ -211,6 +226,35 @@ impl ReaderWatch {
             }
         }
         self.sights.see_if(self.small, "values shown in a room too small for answers");
+    }
+
+    // Saved sets.
+
+    pub fn save(&mut self, now: ReaderLook, form: &[u8]) {
+        self.sets.save(now, form, &mut self.sights);
+        self.in_small_room(2);
+    }
+
+    pub fn load(&mut self, before: ReaderLook, form: &[u8], loaded: Result<(), Refusal>) {
+        self.sets.load(before, form, &mut self.sights);
+        self.in_small_room(usize::from(loaded.is_err()));
+        if loaded.is_ok() {
+            self.forget(AFTER_SET);
+        } else if let Some(last) = &mut self.last {
+            last.set_refused = true;
+        }
+    }
+
+    fn in_small_room(&mut self, member: usize) {
+        if self.small {
+            self.sights.see_member("set taken, refused, saved in a room too small for answers", member);
+        }
+    }
+
+    fn forget(&mut self, again: &'static str) {
+        if let Some(last) = self.last.take() {
+            self.forgotten = Some((last.body, again));
+        }
     }
 
     fn joins(&mut self, before: ReaderLook, event: LineEvent, step: &Step) {
@@ -242,11 +286,11 @@ impl ReaderWatch {
             self.sights.see_member("refusals 1 to 9 answered", member);
         }
         if let Some(packet) = &step.packet {
-            self.refused_packet(packet, refusal);
+            self.refused_packet(before, packet, refusal);
         }
     }
 
-    fn refused_packet(&mut self, packet: &Packet, refusal: Refusal) {
+    fn refused_packet(&mut self, before: ReaderLook, packet: &Packet, refusal: Refusal) {
         let more = packet.status() & MORE != 0;
         if let Some(member) = bit_alone(packet.status()) {
             self.sights.see_member("status bit 2, 4, 5, 6 or 7 alone refused", member);
@@ -274,7 +318,9 @@ impl ReaderWatch {
                     _ => 1,
                 };
                 self.sights.see_member(name, member);
+                self.sets.refused_beep(before.table, packet, &mut self.sights);
             }
+            (Refusal::Parameter, _) if self.sets.refused_pairs(before.table, packet, &mut self.sights) => {}
             (Refusal::Parameter, _) => self.refused_pairs(&packet.data()[1..]),
             _ => {}
         }
@@ -319,9 +365,10 @@ impl ReaderWatch {
         self.sights.see_if(before.waits, "resent equal while the sender waits");
         let last = self.last.as_mut().expect("a packet that was accepted");
         let turned = last.handshaking;
-        let (refused_since, repeated) = (last.refused_since, last.repeated);
+        let (refused_since, set_refused, repeated) = (last.refused_since, last.set_refused, last.repeated);
         last.repeated = true;
         self.sights.see_if(refused_since, "resent equal after refusals between");
+        self.sights.see_if(set_refused, "resent equal after a refused set");
         self.sights.see_if(repeated, "resent equal twice");
         match (turned, opcode) {
             ((true, false), _) => self.sights.see("resent packet that turned 9Fh off, answered"),
@@ -345,8 +392,9 @@ impl ReaderWatch {
         self.sights.see_if(idle_bit, "bit 3 without meaning, command acted on");
         self.compared_with_last(packet);
         self.by_opcode(before, packet, step, turned);
+        self.sets.acted_on(before.table, packet, *reader.table(), &mut self.sights);
         let body = packet.without_mark();
-        self.last = Some(Last { body, handshaking: turned, refused_since: false, repeated: false });
+        self.last = Some(Last { body, handshaking: turned, refused_since: false, set_refused: false, repeated: false });
         self.forgotten = None;
     }
 
@@ -354,8 +402,9 @@ impl ReaderWatch {
         let body = packet.without_mark();
         if packet.marked() {
             self.sights.see("marked, unlike the last, acted on");
-            let forgotten = self.forgotten.as_ref() == Some(&body);
-            self.sights.see_if(forgotten, "resent equal after a power-up, acted on");
+            if let Some((_, again)) = self.forgotten.as_ref().filter(|(forgotten, _)| *forgotten == body) {
+                self.sights.see(again);
+            }
         } else {
             let equal = self.last.as_ref().is_some_and(|last| last.body == body);
             self.sights.see_if(equal, "unmarked equal of the last, acted on");
@@ -369,7 +418,8 @@ impl ReaderWatch {
             PARAM_SEND => self.param_send(packet),
             PARAM_REQUEST => self.param_request(before, data, step),
             PARAM_DEFAULTS => {
-                let changed = before.table != Table::house_defaults();
+                let defaults = Table { locks: before.table.locks, ..Table::house_defaults() };
+                let changed = before.table != defaults;
                 self.sights.see_if(changed, "PARAM_DEFAULTS with changed values");
                 self.sights.see_if(turned == (false, true), "PARAM_DEFAULTS turns 9Fh on");
             }
@@ -469,6 +519,9 @@ impl ReaderWatch {
 
     /// A heeded answer with its cause, or a time-out (cause 0).
     fn sent(&mut self, before: ReaderLook, step: &Step, cause: Option<u8>) {
+        if before.waits {
+            self.sets.sent(step, &mut self.sights);
+        }
         let third = step.copy.is_some() && cause.is_some() && before.resends == 1;
         self.sights.see_if(third, "third copy of a packet");
         let off = step.copy.is_some() && !before.table.handshaking();
@@ -528,9 +581,8 @@ impl ReaderWatch {
         self.sights.see_if(self.small, "power-up in a room too small for answers");
         let nine_f = place(ACK_NAK).expect("9Fh is one of the nine");
         self.sights.see_if(before.table.permanent[nine_f] == 0, "power-up keeps 9Fh off");
-        if let Some(last) = self.last.take() {
-            self.forgotten = Some(last.body);
-        }
+        self.forget(AFTER_POWER_UP);
+        self.sets.power_up(before.table, &mut self.sights);
         self.joined = false;
     }
 }

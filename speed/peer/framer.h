@@ -87,6 +87,12 @@ static inline void framer_accept(peer_framer *framer)
     framer->accepted = true;
 }
 
+// There is no last accepted packet. One that is begun goes on.
+static inline void framer_forget(peer_framer *framer)
+{
+    framer->accepted = false;
+}
+
 // Whether the packet that came is a resend of the last accepted one: marked, and equal apart from that.
 static inline bool framer_repeats(const peer_framer *framer)
 {

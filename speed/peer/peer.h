@@ -4,7 +4,7 @@
 //
 // The shape is that of bindings/c/motikhund.h: an event goes in as a number, what it brought comes back in a small
 // struct, and what is to be sent or filed stands in a buffer of the machine. All buffers are the machine's own, so no
-// event is ever refused for want of room.
+// event is ever refused for want of room. Packets that are built and saved sets go into a room that is lent.
 #ifndef PEER_H
 #define PEER_H
 
@@ -19,7 +19,8 @@ enum {
     PEER_MESSAGE_SIZE = 4096,
     PEER_HUB_ANSWER_SIZE = 7,
     PEER_READER_ANSWER_SIZE = 25,
-    PEER_PARAMETERS = 9
+    PEER_PARAMETERS = 9,
+    PEER_SET_SIZE = 30
 };
 
 // Events: 0 to 255 are a byte. Any number above these does nothing.
@@ -48,6 +49,7 @@ enum {
     PEER_SETTING = 9,
     PEER_BARRED = 10,
     PEER_START = 11,
+    PEER_FORM = 12,
     PEER_ROOM = 13,
     PEER_PACKET = 100,
     PEER_WRITTEN = 101,
@@ -155,6 +157,7 @@ typedef struct {
     peer_framer framer;
     uint8_t present[PEER_PARAMETERS];
     uint8_t permanent[PEER_PARAMETERS];
+    bool locks[PEER_PARAMETERS];
     peer_switches switches;
     uint8_t kept_size; // of the answer to the last accepted packet
     uint8_t kept[PEER_READER_ANSWER_SIZE];
@@ -168,6 +171,7 @@ typedef struct {
     uint8_t duration; // PEER_ACTED: of the beep
     uint8_t pitch;
     uint8_t count;    // how many beeps; 0: none
+    bool changed;     // PEER_ACTED: a permanent value is another one now
     uint16_t value;   // as in peer_sent
 } peer_reader_told;
 
@@ -176,6 +180,13 @@ void peer_reader_restart(peer_reader *reader);
 peer_reader_told peer_reader_event(peer_reader *reader, uint32_t event);
 peer_sent peer_reader_send(peer_reader *reader, uint8_t code, const uint8_t *bytes, size_t count);
 peer_sent peer_reader_expire(peer_reader *reader);
+
+// Writes the permanent values and the locks in the form of a saved set (2/14) at the front of the room: PEER_WRITTEN
+// with its size, or PEER_ROOM for a room under PEER_SET_SIZE.
+peer_built peer_reader_save(const peer_reader *reader, uint8_t *room, size_t room_size);
+
+// Takes a saved set: PEER_NOTHING, or PEER_FORM, and nothing has changed.
+uint32_t peer_reader_load(peer_reader *reader, const uint8_t *form, size_t count);
 
 // Of the structs, for those who declare them in another language.
 extern const size_t peer_hub_size, peer_sender_size, peer_reader_size;

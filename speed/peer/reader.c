@@ -1,4 +1,4 @@
-// The reader's whole end: commands with the parameter table, and the sender.
+// The reader's whole end: commands with the parameter table, its saved set, and the sender.
 #include "framer.h"
 
 enum {
@@ -64,11 +64,14 @@ static const uint8_t beeps[HIGHEST_BEEP + 1][3] = {
 
 const size_t peer_reader_size = sizeof(peer_reader);
 
+// For all that are not locked.
 static void house_defaults(peer_reader *reader)
 {
     for (size_t i = 0; i < PEER_PARAMETERS; i++) {
-        reader->present[i] = rows[i].house;
-        reader->permanent[i] = rows[i].house;
+        if (!reader->locks[i]) {
+            reader->present[i] = rows[i].house;
+            reader->permanent[i] = rows[i].house;
+        }
     }
 }
 
@@ -83,6 +86,7 @@ void peer_reader_restart(peer_reader *reader)
 
 void peer_reader_init(peer_reader *reader)
 {
+    memset(reader->locks, 0, sizeof reader->locks);
     house_defaults(reader);
     peer_reader_restart(reader);
 }
@@ -112,18 +116,22 @@ static bool setting_allowed(uint8_t number, uint8_t value)
     return row != TRIGGER || (TRIGGERS >> value & 1) != 0;
 }
 
-static bool settings_allowed(const uint8_t *pairs, size_t count)
+// A locked parameter is not to be named, whatever the value.
+static bool settings_allowed(const peer_reader *reader, const uint8_t *pairs, size_t count)
 {
     for (size_t i = 0; i < count; i += 2) {
-        if (!setting_allowed(pairs[i], pairs[i + 1])) {
+        if (!setting_allowed(pairs[i], pairs[i + 1]) || reader->locks[row_of[pairs[i]] - 1]) {
             return false;
         }
     }
     return true;
 }
 
-static void set(peer_reader *reader, const uint8_t *pairs, size_t count, bool permanently)
+// Whether a permanent value is another one afterwards: a number named twice may end as it was.
+static bool set(peer_reader *reader, const uint8_t *pairs, size_t count, bool permanently)
 {
+    uint8_t before[PEER_PARAMETERS];
+    memcpy(before, reader->permanent, sizeof before);
     for (size_t i = 0; i < count; i += 2) {
         uint8_t row = row_of[pairs[i]];
         reader->present[row - 1] = pairs[i + 1];
@@ -131,6 +139,15 @@ static void set(peer_reader *reader, const uint8_t *pairs, size_t count, bool pe
             reader->permanent[row - 1] = pairs[i + 1];
         }
     }
+    return memcmp(before, reader->permanent, sizeof before) != 0;
+}
+
+static bool set_back(peer_reader *reader)
+{
+    uint8_t before[PEER_PARAMETERS];
+    memcpy(before, reader->permanent, sizeof before);
+    house_defaults(reader);
+    return memcmp(before, reader->permanent, sizeof before) != 0;
 }
 
 static size_t put_all(const peer_reader *reader, uint8_t *pairs)
@@ -172,6 +189,85 @@ static uint8_t put_values(peer_reader *reader, const uint8_t *numbers, size_t co
     return (uint8_t)peer_seal(answer);
 }
 
+// ---- the saved set
+
+enum {
+    EDITION = 1,
+    AT_EDITION = 0,
+    AT_COUNT = 1,
+    AT_PAIRS = 2,
+    AT_LOCK_COUNT = AT_PAIRS + 2 * PEER_PARAMETERS,
+    AT_LOCKS = AT_LOCK_COUNT + 1
+};
+
+peer_built peer_reader_save(const peer_reader *reader, uint8_t *room, size_t room_size)
+{
+    if (room_size < PEER_SET_SIZE) {
+        return (peer_built){PEER_ROOM, 0};
+    }
+    size_t size = AT_LOCKS;
+    room[AT_EDITION] = EDITION;
+    room[AT_COUNT] = PEER_PARAMETERS;
+    for (size_t i = 0; i < PEER_PARAMETERS; i++) {
+        room[AT_PAIRS + 2 * i] = rows[i].number;
+        room[AT_PAIRS + 2 * i + 1] = reader->permanent[i];
+        if (reader->locks[i]) {
+            room[size++] = rows[i].number;
+        }
+    }
+    room[AT_LOCK_COUNT] = (uint8_t)(size - AT_LOCKS);
+    return (peer_built){PEER_WRITTEN, (uint16_t)size};
+}
+
+static bool pairs_right(const uint8_t *pairs)
+{
+    for (size_t i = 0; i < PEER_PARAMETERS; i++) {
+        if (pairs[2 * i] != rows[i].number || !setting_allowed(pairs[2 * i], pairs[2 * i + 1])) {
+            return false;
+        }
+    }
+    return true;
+}
+
+// The rows are in the order of their numbers, so the locks rise where their rows do; and NO_ROW is above none.
+static bool locks_right(const uint8_t *numbers, size_t count)
+{
+    uint8_t before = NO_ROW;
+    for (size_t i = 0; i < count; i++) {
+        uint8_t row = row_of[numbers[i]];
+        if (row <= before) {
+            return false;
+        }
+        before = row;
+    }
+    return true;
+}
+
+static bool form_right(const uint8_t *form, size_t count)
+{
+    return count >= AT_LOCKS && form[AT_EDITION] == EDITION && form[AT_COUNT] == PEER_PARAMETERS
+        && form[AT_LOCK_COUNT] == count - AT_LOCKS && pairs_right(form + AT_PAIRS)
+        && locks_right(form + AT_LOCKS, count - AT_LOCKS);
+}
+
+uint32_t peer_reader_load(peer_reader *reader, const uint8_t *form, size_t count)
+{
+    if (!form_right(form, count)) {
+        return PEER_FORM;
+    }
+    for (size_t i = 0; i < PEER_PARAMETERS; i++) {
+        reader->permanent[i] = form[AT_PAIRS + 2 * i + 1];
+        reader->locks[i] = false;
+    }
+    memcpy(reader->present, reader->permanent, sizeof reader->present);
+    for (size_t i = AT_LOCKS; i < count; i++) {
+        reader->locks[row_of[form[i]] - 1] = true;
+    }
+    framer_forget(&reader->framer);
+    reader->kept_size = 0;
+    return PEER_NOTHING;
+}
+
 // ---- the commands
 
 static uint8_t judge_length(uint8_t opcode, size_t count)
@@ -209,7 +305,7 @@ static uint8_t judge_head(const uint8_t *packet)
     return judge_length(packet[AT_OPCODE], packet[AT_LENGTH] - AT_DATA);
 }
 
-static uint8_t judge_data(uint8_t opcode, const uint8_t *data, size_t count)
+static uint8_t judge_data(const peer_reader *reader, uint8_t opcode, const uint8_t *data, size_t count)
 {
     if (opcode == BEEP) {
         return data[0] <= HIGHEST_BEEP ? PEER_NOTHING : PEER_BEEP;
@@ -220,7 +316,7 @@ static uint8_t judge_data(uint8_t opcode, const uint8_t *data, size_t count)
     if (data[0] > HIGHEST_BEEP && data[0] != NO_BEEP) {
         return PEER_BEEP;
     }
-    return settings_allowed(data + 1, count - 1) ? PEER_NOTHING : PEER_SETTING;
+    return settings_allowed(reader, data + 1, count - 1) ? PEER_NOTHING : PEER_SETTING;
 }
 
 static void sound(peer_reader_told *told, uint8_t code)
@@ -245,11 +341,11 @@ static void act(peer_reader *reader, const uint8_t *packet, peer_reader_told *to
         switches->aim = true;
         break;
     case PARAM_SEND:
-        set(reader, data + 1, count - 1, packet[AT_STATUS] & PERMANENT);
+        told->changed = set(reader, data + 1, count - 1, packet[AT_STATUS] & PERMANENT);
         sound(told, data[0]);
         break;
     case PARAM_DEFAULTS:
-        house_defaults(reader);
+        told->changed = set_back(reader);
         break;
     case START_SESSION:
         switches->session |= switches->scanning;
@@ -326,7 +422,7 @@ static peer_reader_told take(peer_reader *reader)
     if (framer_repeats(&reader->framer)) {
         return answer_again(reader);
     }
-    refusal = judge_data(packet[AT_OPCODE], packet + AT_DATA, packet[AT_LENGTH] - AT_DATA);
+    refusal = judge_data(reader, packet[AT_OPCODE], packet + AT_DATA, packet[AT_LENGTH] - AT_DATA);
     if (refusal != PEER_NOTHING) {
         return refuse(reader, refusal);
     }

@@ -61,7 +61,9 @@ const REASONS: [(&str, &str); 5] = [
     (
         "reader, ",
         "as for a hub; and about every eighth event here ends a packet, for which mk_reader_hear reads the whole control value
-    and tests it. Timed natively on an ARM processor, from the same intermediate code: 2.0",
+    and tests it, nine locks among it, which are flags that are moved one by one, and writes all of it back; then it
+    compares the permanent values. Timed natively on an ARM processor, from the same intermediate code, before there
+    were locks: 2.0",
     ),
     (
         "check, ",

@@ -23,14 +23,16 @@ pub const MESSAGE: usize = 4_096;
 pub const PACKET: usize = 257;
 pub const HUB_ANSWER: usize = 7;
 pub const READER_ANSWER: usize = 25;
+pub const SET: usize = 30;
 
 /// What a call brought, of whichever kind. What a call has none of is empty or 0.
 #[derive(Clone, Copy, Default, PartialEq)]
 pub struct Told<'a> {
     pub number: u32,
-    /// The head that the check found; a message's code type; a beep; how often a message was resent.
+    /// The head that the check found; a message's code type; a beep, and 1 where a permanent value changed; how often a
+    /// message was resent.
     pub values: [u8; 4],
-    /// What goes on the line: an answer, a copy, a packet that was built.
+    /// What goes on the line: an answer, a copy, a packet that was built. Or a saved set.
     pub packet: &'a [u8],
     pub message: &'a [u8],
 }

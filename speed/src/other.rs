@@ -6,7 +6,7 @@ use second::packet::{self, Packet, Refusal, CMD_ACK, CMD_NAK, HOST};
 use second::reader::{self, Step};
 use second::sender::{self, End, Sent};
 
-use crate::calls::{self, Event, Fields, Told, ACK, HUB_ANSWER, MESSAGE, PACKET, READER_ANSWER, TIME_OUT};
+use crate::calls::{self, Event, Fields, Told, ACK, HUB_ANSWER, MESSAGE, PACKET, READER_ANSWER, SET, TIME_OUT};
 use crate::calls::{ACTED, ADDED, COPY, DELIVERED, FAILED, FOUND, HANDED_OUT, REPEATED, WRITTEN};
 
 pub struct Packets(pub [u8; PACKET]);
@@ -165,9 +165,18 @@ impl Reader {
             None if step.switches.is_some() => ACTED,
             None => 0,
         };
-        let values = step.beep.map_or([0; 4], |[duration, pitch, count]| [duration, pitch, count, 0]);
+        let [duration, pitch, count] = step.beep.unwrap_or_default();
+        let values = [duration, pitch, count, step.changed.into()];
         let packet = step.answer.map_or(&[][..], |answer| put(&mut self.answer, &answer));
         Told { number, values, packet, message: &[] }
+    }
+
+    pub fn save<'a>(&self, room: &'a mut [u8; SET]) -> Told<'a> {
+        Told { number: WRITTEN, packet: put(room, &self.reader.save()), ..Told::default() }
+    }
+
+    pub fn load(&mut self, form: &[u8]) -> Told<'_> {
+        self.reader.load(form).map_or_else(refused, |()| Told::default())
     }
 
     pub fn start(&mut self, code: u8, message: &[u8]) -> Told<'_> {

@@ -3,11 +3,15 @@
 use motikhund::constants::{FRAMER_CONTROL_SIZE, HEAD_VALUES, HUB_CONTROL_SIZE, HUB_VALUES, LINE_SIZE};
 use motikhund::constants::{READER_CONTROL_SIZE, READER_VALUES, SENDER_CONTROL_SIZE, SWITCH_VALUES};
 use motikhund::raw::*;
+use second::form;
 use second::packet::*;
 use second::reader::ALL;
 use second::sender::PIECE;
+use second::table::{Table, ROWS};
 
-use crate::calls::{Event, Machine, Sender, ACK, HUB_ANSWER, MESSAGE, NAK_RESEND, PACKET, READER_ANSWER, TIME_OUT};
+use crate::calls::{
+    Event, Machine, Sender, ACK, HUB_ANSWER, MESSAGE, NAK_RESEND, PACKET, READER_ANSWER, SET, TIME_OUT,
+};
 use crate::peer::{self, *};
 use crate::stack::{calibrate, measured, Depths, Tells};
 use crate::streams::{self, Dice, Stream};
@@ -303,6 +307,40 @@ impl End {
         );
         measured!(depths, peer_reader_expire(&mut *peer.0));
     }
+
+    fn save(&mut self, depths: &mut Depths) {
+        let End { control, value, peer, .. } = self;
+        let mut room = [0; SET];
+        for size in [0, SET] {
+            measured!(depths, mk_reader_save(control.as_ptr(), control.len(), room.as_mut_ptr(), size, &mut *value));
+            measured!(depths, peer_reader_save(&*peer.0, room.as_mut_ptr(), size));
+        }
+        for number in 0..=255 {
+            measured!(depths, mk_reader_locked(control.as_ptr(), control.len(), number, &mut *value));
+        }
+    }
+
+    fn load(&mut self, depths: &mut Depths, form: &[u8]) {
+        let End { control, peer, .. } = self;
+        measured!(depths, mk_reader_load(control.as_mut_ptr(), control.len(), form.as_ptr(), form.len()));
+        measured!(depths, peer_reader_load(&mut *peer.0, form.as_ptr(), form.len()));
+    }
+}
+
+/// Saved sets, written and read: right ones with every number of locks, and spoiled at each place.
+fn sets(depths: &mut Depths, end: &mut End) {
+    for locked in 0..=ROWS.len() {
+        let table = Table { locks: std::array::from_fn(|place| place < locked), ..Table::house_defaults() };
+        let form = form::save(&table);
+        end.load(depths, &form);
+        end.save(depths);
+        for at in 0..form.len() {
+            end.load(depths, &form[..at]);
+            let mut wrong = form.clone();
+            wrong[at] = !wrong[at];
+            end.load(depths, &wrong);
+        }
+    }
 }
 
 fn reader(depths: &mut Depths, commands: &Stream) {
@@ -329,6 +367,8 @@ fn reader(depths: &mut Depths, commands: &Stream) {
             end.hear(depths, &answer);
         }
     }
+    sets(depths, &mut end);
+    end.hear(depths, commands);
     measured!(depths, mk_reader_power_up(end.control.as_mut_ptr(), end.control.len()));
 }
 

@@ -3,7 +3,7 @@
 use std::mem::{size_of, MaybeUninit};
 use std::slice;
 
-use crate::calls::{self, Event, Fields, Told, HUB_ANSWER, MESSAGE, PACKET, READER_ANSWER};
+use crate::calls::{self, Event, Fields, Told, HUB_ANSWER, MESSAGE, PACKET, READER_ANSWER, SET};
 
 const PARAMETERS: usize = 9;
 
@@ -48,6 +48,7 @@ pub struct CReader {
     framer: CFramer,
     pub present: [u8; PARAMETERS],
     pub permanent: [u8; PARAMETERS],
+    pub locks: [bool; PARAMETERS],
     /// Scanning, session, aim, LED.
     pub switches: [bool; 4],
     kept_size: u8,
@@ -87,6 +88,7 @@ pub struct CReaderTold {
     pub number: u8,
     answer: u8,
     beep: [u8; 3],
+    changed: bool,
     value: u16,
 }
 
@@ -111,6 +113,8 @@ extern "C" {
     pub fn peer_reader_event(reader: *mut CReader, event: u32) -> CReaderTold;
     pub fn peer_reader_send(reader: *mut CReader, code: u8, bytes: *const u8, count: usize) -> CSent;
     pub fn peer_reader_expire(reader: *mut CReader) -> CSent;
+    pub fn peer_reader_save(reader: *const CReader, room: *mut u8, room_size: usize) -> Built;
+    pub fn peer_reader_load(reader: *mut CReader, form: *const u8, count: usize) -> u32;
     static peer_hub_size: usize;
     static peer_sender_size: usize;
     static peer_reader_size: usize;
@@ -236,7 +240,8 @@ impl calls::Machine for Reader {
 
     #[inline(always)]
     fn event(&mut self, event: Event) -> Told<'_> {
-        let CReaderTold { number, answer, beep, value } = unsafe { peer_reader_event(&mut *self.0, event.number()) };
+        let CReaderTold { number, answer, beep, changed, value } =
+            unsafe { peer_reader_event(&mut *self.0, event.number()) };
         // What the sender made of an ACK or NAK comes with no answer and no beep.
         if value != 0 {
             return sent(&self.0.sender, number, value);
@@ -244,7 +249,7 @@ impl calls::Machine for Reader {
         let [duration, pitch, count] = beep;
         Told {
             number: number.into(),
-            values: [duration, pitch, count, 0],
+            values: [duration, pitch, count, changed.into()],
             packet: front(&self.0.answer, answer.into()),
             message: &[],
         }
@@ -255,6 +260,17 @@ impl calls::Machine for Reader {
 impl Reader {
     pub fn power_up(&mut self) {
         unsafe { peer_reader_restart(&mut *self.0) };
+    }
+
+    /// The saved set stands at the front of the room.
+    pub fn save<'a>(&self, room: &'a mut [u8; SET]) -> Told<'a> {
+        let built = unsafe { peer_reader_save(&*self.0, room.as_mut_ptr(), room.len()) };
+        Told { number: built.number.into(), packet: front(room, built.size.into()), ..Told::default() }
+    }
+
+    pub fn load(&mut self, form: &[u8]) -> Told<'_> {
+        let number = unsafe { peer_reader_load(&mut *self.0, form.as_ptr(), form.len()) };
+        Told { number, ..Told::default() }
     }
 
     pub fn start(&mut self, code: u8, message: &[u8]) -> Told<'_> {

@@ -150,8 +150,9 @@ impl calls::Machine for Reader {
     fn event(&mut self, event: Event) -> Told<'_> {
         match self.0.event(event) {
             ReaderTold::Nothing => Told::default(),
-            ReaderTold::Acted { beep, answer } => {
-                let values = beep.map_or([0; 4], |beep| [beep.duration, beep.pitch, beep.count, 0]);
+            ReaderTold::Acted { beep, permanent, answer } => {
+                let [duration, pitch, count] = beep.map_or([0; 3], |beep| [beep.duration, beep.pitch, beep.count]);
+                let values = [duration, pitch, count, permanent.into()];
                 Told { number: ACTED, values, packet: answer, message: &[] }
             }
             ReaderTold::Repeated { answer } => Told { number: REPEATED, packet: answer, ..Told::default() },

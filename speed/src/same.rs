@@ -1,11 +1,12 @@
 //! Whether the peer does what the second program does: on the second program's own streams and sweeps, event by event.
 //! Compared are the number told, every value, every byte written and every byte of a room that is not; of a reader also
-//! its parameters and switches.
+//! its parameters with their locks, and its switches.
 
-use second::packet::{build, lay_out, COMMANDS, DECODE_DATA, HOST, LONGEST, READER};
+use second::packet::{build, lay_out, Refusal, COMMANDS, DECODE_DATA, HOST, LONGEST, READER};
 use second::streams::{open_stream, sweep, Kind};
+use second::table::ROWS;
 
-use crate::calls::{Event, Fields, Machine, Packets, Told};
+use crate::calls::{Event, Fields, Machine, Packets, Told, SET};
 use crate::work::Noted;
 use crate::{other, peer};
 
@@ -17,11 +18,19 @@ enum Token {
     PowerUp,
     /// Code type, then the bytes.
     Start(Vec<u8>),
+    Save,
+    Load(Vec<u8>),
 }
 
 fn pair(text: &[u8]) -> u8 {
     let text = std::str::from_utf8(text).expect("two digits");
     u8::from_str_radix(text, 16).unwrap_or_else(|_| panic!("{text} is no byte"))
+}
+
+/// The bytes of a token, up to its `;`.
+fn bytes_of(characters: &mut impl Iterator<Item = u8>) -> Vec<u8> {
+    let digits: Vec<u8> = characters.take_while(|character| *character != b';').collect();
+    digits.chunks(2).map(pair).collect()
 }
 
 /// The streams of the second program are right throughout, so nothing else is looked for.
@@ -34,10 +43,9 @@ fn tokens(text: &[u8]) -> Vec<Token> {
             b'/' => Token::Line(Event::MessageGap),
             b'T' => Token::TimeOut,
             b'P' => Token::PowerUp,
-            b'S' => {
-                let digits: Vec<u8> = words.by_ref().take_while(|character| *character != b';').collect();
-                Token::Start(digits.chunks(2).map(pair).collect())
-            }
+            b'W' => Token::Save,
+            b'S' => Token::Start(bytes_of(&mut words)),
+            b'L' => Token::Load(bytes_of(&mut words)),
             digit => Token::Line(Event::Byte(pair(&[digit, words.next().expect("a second digit")]))),
         };
         tokens.push(token);
@@ -87,21 +95,33 @@ struct Readers {
     switches: [u8; 4],
     /// Of the peer.
     peer_switches: [u8; 4],
+    locks: [[u8; ROWS.len()]; 2],
+    /// Into which both write their saved sets.
+    sets: [[u8; SET]; 2],
 }
 
 impl Both for Readers {
     fn new() -> Readers {
-        Readers { peer: Machine::new(), second: Machine::new(), switches: [0; 4], peer_switches: [0; 4] }
+        Readers {
+            peer: Machine::new(),
+            second: Machine::new(),
+            switches: [0; 4],
+            peer_switches: [0; 4],
+            locks: [[0; ROWS.len()]; 2],
+            sets: [[0; SET]; 2],
+        }
     }
 
     fn take(&mut self, token: &Token) -> [Noted; 2] {
-        let Readers { peer, second, .. } = self;
+        let Readers { peer, second, sets: [peer_set, second_set], .. } = self;
         let told = match token {
             Token::Line(event) => [Noted::of(peer.event(*event)), Noted::of(second.event(*event))],
             Token::TimeOut => [Noted::of(peer.time_out()), Noted::of(second.time_out())],
             Token::Start(bytes) => {
                 [Noted::of(peer.start(bytes[0], &bytes[1..])), Noted::of(second.start(bytes[0], &bytes[1..]))]
             }
+            Token::Save => [Noted::of(peer.save(peer_set)), Noted::of(second.save(second_set))],
+            Token::Load(form) => [Noted::of(peer.load(form)), Noted::of(second.load(form))],
             Token::PowerUp => {
                 peer.power_up();
                 second.reader.power_up();
@@ -111,6 +131,7 @@ impl Both for Readers {
         let now = second.reader.switches();
         self.switches = [now.enabled, now.session, now.aim, now.led].map(u8::from);
         self.peer_switches = peer.0.switches.map(u8::from);
+        self.locks = [peer.0.locks, second.reader.table().locks].map(|locks| locks.map(u8::from));
         told
     }
 
@@ -120,6 +141,8 @@ impl Both for Readers {
             ("answer room", [&self.peer.0.answer, &self.second.answer]),
             ("present values", [&self.peer.0.present, &table.present]),
             ("permanent values", [&self.peer.0.permanent, &table.permanent]),
+            ("locks", [&self.locks[0], &self.locks[1]]),
+            ("saved set", [&self.sets[0], &self.sets[1]]),
             ("switches", [&self.peer_switches, &self.switches]),
         ]
     }
@@ -211,6 +234,20 @@ fn small_rooms() -> Result<usize, String> {
     Ok(LONGEST)
 }
 
+/// The same for saved sets.
+fn small_set_rooms() -> Result<usize, String> {
+    let reader = peer::Reader::new();
+    for size in 0..SET {
+        let mut room = [0xAA; SET];
+        // SAFETY: the room has more bytes than are told.
+        let told = unsafe { peer::peer_reader_save(&*reader.0, room.as_mut_ptr(), size) };
+        if usize::from(told.number) != Refusal::Room.number() || room != [0xAA; SET] {
+            return Err(format!("a set saved in {size} bytes: the peer tells {}", told.number));
+        }
+    }
+    Ok(SET)
+}
+
 /// The check and the build alone: every length, every byte of a packet wrong, every opcode with every status.
 fn packets() -> Result<usize, String> {
     let mut both = Packers { peer: Packets::new(), second: Packets::new(), calls: 0 };
@@ -246,5 +283,5 @@ pub fn compare(number: u64) -> Result<usize, String> {
     }
     let hubs = streams::<Hubs>(Kind::Hub, number)?;
     let readers = streams::<Readers>(Kind::Reader, number)?;
-    Ok(packets()? + small_rooms()? + hubs + readers)
+    Ok(packets()? + small_rooms()? + small_set_rooms()? + hubs + readers)
 }

@@ -211,6 +211,26 @@ pub(crate) fn reader_hear(
     (number, values)
 }
 
+pub(crate) fn reader_save(control: &[u8], room: &mut [u8]) -> (u32, usize) {
+    let mut size = 0;
+    let (state, to) = (control.as_ptr(), room.as_mut_ptr());
+    // SAFETY: the rule above.
+    let number = unsafe { raw::mk_reader_save(state, control.len(), to, room.len(), &mut size) };
+    (number, size)
+}
+
+pub(crate) fn reader_load(control: &mut [u8], form: &[u8]) -> u32 {
+    // SAFETY: the rule above.
+    unsafe { raw::mk_reader_load(control.as_mut_ptr(), control.len(), form.as_ptr(), form.len()) }
+}
+
+pub(crate) fn reader_locked(control: &[u8], number: u8) -> (u32, usize) {
+    let mut value = 0;
+    // SAFETY: the rule above.
+    let told = unsafe { raw::mk_reader_locked(control.as_ptr(), control.len(), number, &mut value) };
+    (told, value)
+}
+
 pub(crate) fn reader_value(control: &[u8], number: u8) -> (u32, usize) {
     let mut value = 0;
     // SAFETY: the rule above.

@@ -10,7 +10,7 @@ pub const HUB_CONTROL_SIZE: usize = 29;
 /// A sender's control value.
 pub const SENDER_CONTROL_SIZE: usize = 35;
 /// A reader's control value.
-pub const READER_CONTROL_SIZE: usize = 83;
+pub const READER_CONTROL_SIZE: usize = 92;
 /// The front of a hub's or a reader's control value, for [`mk_go_on`](crate::raw::mk_go_on).
 pub const GOING_SIZE: usize = 10;
 /// The longest packet with its checksum: building, a framer's line, a copy.
@@ -25,6 +25,8 @@ pub const ANSWER_SIZE: usize = 7;
 pub const HUB_ANSWER_SIZE: usize = 7;
 /// A reader's longest answer: a PARAM_SEND with all nine parameters.
 pub const READER_ANSWER_SIZE: usize = 25;
+/// The longest form of a saved set: all nine parameters are locked.
+pub const SET_SIZE: usize = 30;
 /// The most data in a packet.
 pub const DATA_SIZE: usize = 251;
 
@@ -49,7 +51,7 @@ pub const HEARD_NOTHING: u32 = 258;
 pub const NOTHING: u32 = 0;
 /// A packet was found.
 pub const PACKET: u32 = 100;
-/// A packet was written.
+/// A packet or a set was written.
 pub const WRITTEN: u32 = 101;
 /// Hub: a piece was added to the message.
 pub const ADDED: u32 = 110;
@@ -270,8 +272,10 @@ pub const READER_VALUE_COUNT: usize = 3;
 /// Reader, of a copy: so many bytes of the copy room are to be sent; of a message delivered or failed: its marked
 /// copies.
 pub const READER_VALUE_SENT: usize = 4;
+/// Reader, of a command: 1 where a permanent value changed, so that it is time to save; else 0.
+pub const READER_VALUE_PERMANENT: usize = 5;
 /// The values of a reader.
-pub const READER_VALUES: usize = 5;
+pub const READER_VALUES: usize = 6;
 
 /// Switches: scanning is enabled.
 pub const SWITCH_SCANNING: usize = 0;

@@ -38,7 +38,7 @@
 //!     match told {
 //!         ReaderTold::Copy(_) => {} // start the response time-out behind it
 //!         ReaderTold::Delivered { .. } | ReaderTold::Failed { .. } => {} // the message has ended
-//!         ReaderTold::Acted { .. } => {} // sound the beep, read switches and parameters
+//!         ReaderTold::Acted { .. } => {} // sound the beep, read switches and parameters, save where it says so
 //!         ReaderTold::Nothing | ReaderTold::Repeated { .. } | ReaderTold::Refused { .. } => {}
 //!     }
 //! }
@@ -86,10 +86,12 @@
 //!   its answers were lost.
 //! - A silence that grows may be given again. A second character gap does nothing; a message gap behind a character gap
 //!   does what it does alone, and a second one nothing more.
-//! - A reader's permanent values outlast power-off where [`Reader::control`] is kept and given to
-//!   [`Reader::powered_up`]; every parameter is then to be read, for a blank memory (all FFh, or all 0) has values
-//!   outside their ranges: nothing was kept, and [`Reader::new`] is due. So it is after an update that moved what stands
-//!   there ([`VERSION`] says which do). A hub keeps nothing.
+//! - A reader's permanent values and locks outlast power-off as a saved set, 21 to 30 bytes: [`Reader::save`] whenever
+//!   [`ReaderTold::Acted`] says that a permanent value changed, and after each [`Reader::load`] that brought a new set;
+//!   at switch-on [`Reader::new`], then [`Reader::load`]. A memory that is blank (all FFh, or all 0) is
+//!   [`Refusal::Form`], and the house defaults stay. A set is not bound to [`VERSION`], as control bytes are. It has no
+//!   checksum of its own: where the power may fail while it is written, keep two, each with a checksum. A hub keeps
+//!   nothing.
 
 #![no_std]
 #![warn(missing_docs)]

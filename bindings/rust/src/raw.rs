@@ -160,7 +160,8 @@ extern "C" {
     /// As [above](self#safety).
     pub fn mk_reader_on(control: *mut u8, control_len: usize) -> u32;
 
-    /// Power-up: permanent values become present ones, all that came or was out is forgotten. `NOTHING` or `Room`.
+    /// Power-up: permanent values become present ones, locks stay, all that came or was out is forgotten. `NOTHING` or
+    /// `Room`.
     ///
     /// # Safety
     /// As [above](self#safety).
@@ -214,6 +215,32 @@ extern "C" {
         event: u32,
         values: *mut [usize; READER_VALUES],
     ) -> u32;
+
+    /// Writes the permanent values and the locks as the form of a set, at the front of a room of `SET_SIZE`: `WRITTEN`
+    /// and its size (21 to 30), or `Room`.
+    ///
+    /// # Safety
+    /// As [above](self#safety).
+    pub fn mk_reader_save(
+        control: *const u8,
+        control_len: usize,
+        room: *mut u8,
+        room_len: usize,
+        size: *mut usize,
+    ) -> u32;
+
+    /// Reads the form of a set, of just so many bytes: `NOTHING`, and permanent values, present values and locks are
+    /// those of the set, the last accepted packet is forgotten, and all else stays. Or, in this order, `Form`; `Room`.
+    ///
+    /// # Safety
+    /// As [above](self#safety).
+    pub fn mk_reader_load(control: *mut u8, control_len: usize, form: *const u8, form_len: usize) -> u32;
+
+    /// Whether a parameter is locked, 1 or 0; 0 where there is no such parameter: `NOTHING` or `Room`.
+    ///
+    /// # Safety
+    /// As [above](self#safety).
+    pub fn mk_reader_locked(control: *const u8, control_len: usize, number: u8, value: *mut usize) -> u32;
 
     /// The present value of a parameter, 0 where there is no such parameter: `NOTHING` or `Room`.
     ///

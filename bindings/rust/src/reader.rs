@@ -6,7 +6,8 @@ use crate::buffer::Buffer;
 use crate::constants::{
     ACK_NAK_ON, BAUD_9600, DATA_PACKETED, LINE_SIZE, MESSAGE_SIZE, PACKET_SIZE, PARITY_NONE, POWER_CONTINUOUS,
     READER_ANSWER_SIZE, READER_CONTROL_SIZE, READER_VALUES, READER_VALUE_COUNT, READER_VALUE_DURATION,
-    READER_VALUE_PITCH, SWITCH_AIM, SWITCH_LED, SWITCH_SCANNING, SWITCH_SESSION, SWITCH_VALUES, TRIGGER_LEVEL,
+    READER_VALUE_PITCH, SET_SIZE, SWITCH_AIM, SWITCH_LED, SWITCH_SCANNING, SWITCH_SESSION, SWITCH_VALUES,
+    TRIGGER_LEVEL,
 };
 use crate::lent::reader;
 use crate::numbers::byte;
@@ -71,6 +72,8 @@ pub enum ReaderTold<'a> {
     Acted {
         /// What is to sound, if anything.
         beep: Option<Beep>,
+        /// A permanent value changed, so that it is time to [`save`](Reader::save).
+        permanent: bool,
         /// An ACK, a PARAM_SEND, or no bytes.
         answer: &'a [u8],
     },
@@ -115,11 +118,11 @@ impl<'a> ReaderTold<'a> {
     }
 }
 
-/// What [`reader::on`] makes: the house defaults in the order of their numbers, present and permanent, and scanning
-/// enabled; all else is 0. A constant, so that a reader may be a `static`.
+/// What [`reader::on`] makes: the house defaults in the order of their numbers, present and permanent, none of them
+/// locked, and scanning enabled; all else is 0. A constant, so that a reader may be a `static`.
 const ON: [u8; READER_CONTROL_SIZE] = {
     const PRESENT: usize = 26;
-    const SCANNING: usize = 44;
+    const SCANNING: usize = 53;
     const DEFAULTS: [u8; 9] =
         [POWER_CONTINUOUS, 10, TRIGGER_LEVEL, 20, BAUD_9600, PARITY_NONE, ACK_NAK_ON, 0, DATA_PACKETED];
     let mut control = [0; READER_CONTROL_SIZE];
@@ -133,7 +136,7 @@ const ON: [u8; READER_CONTROL_SIZE] = {
     control
 };
 
-/// The reader's end of the line: its commands with the parameter table, and its sender. It has 5,000 bytes and an
+/// The reader's end of the line: its commands with the parameter table, and its sender. It has 5,009 bytes and an
 /// alignment of 1.
 #[derive(Clone, Debug, PartialEq, Eq)]
 pub struct Reader {
@@ -145,17 +148,17 @@ pub struct Reader {
     copy: Buffer<PACKET_SIZE>,
 }
 
-const _: () = assert!(size_of::<Reader>() == 5_000 && align_of::<Reader>() == 1);
+const _: () = assert!(size_of::<Reader>() == 5_009 && align_of::<Reader>() == 1);
 
 impl Reader {
-    /// A reader switched on with the house defaults. A message gap is due before the first message.
+    /// A reader switched on with the house defaults, none locked. A message gap is due before the first message.
     pub const fn new() -> Self {
         Self::with(ON)
     }
 
-    /// A reader that powers up with the permanent values in control bytes that were kept over a loss of power. Then
-    /// read every parameter: if one is outside its range, nothing was kept (a blank memory), and [`Reader::new`] is
-    /// due. So it is where they were kept under a [`VERSION`](crate::VERSION) with other first numbers.
+    /// A reader that powers up with the permanent values and locks in control bytes that were kept over a loss of power.
+    /// They are taken as they are, a blank memory too, and only under a [`VERSION`](crate::VERSION) with the same first
+    /// numbers: what outlasts power-off is better kept as a saved set, which is judged ([`Reader::load`]).
     pub fn powered_up(kept: [u8; READER_CONTROL_SIZE]) -> Self {
         let mut reader = Self::with(kept);
         reader.restart();
@@ -173,13 +176,13 @@ impl Reader {
         }
     }
 
-    /// The control bytes, in which the permanent values stand. Keep [`VERSION`](crate::VERSION) with them.
+    /// The control bytes, in which the permanent values and the locks stand. Keep [`VERSION`](crate::VERSION) with them.
     pub fn control(&self) -> &[u8; READER_CONTROL_SIZE] {
         &self.control
     }
 
-    /// Power-up: permanent values are copied to present ones; framer, sender and the last accepted packet are
-    /// forgotten. So is whether the message before failed: a message gap is due before the first message after it.
+    /// Power-up: permanent values are copied to present ones, locks stay; framer, sender and the last accepted packet
+    /// are forgotten. So is whether the message before failed: a message gap is due before the first message after it.
     pub fn restart(&mut self) {
         // The control bytes have their size: nothing to refuse.
         let _ = reader::power_up(&mut self.control);
@@ -200,6 +203,52 @@ impl Reader {
     pub fn event(&mut self, event: Event) -> ReaderTold<'_> {
         let Reader { control, line, answers, message, answer, copy } = self;
         reader::hear(control, &mut line.0, answers, &message.0, answer, &mut copy.0, event)
+    }
+
+    /// Writes the permanent values and the locks as the form of a set at the front of the room, and gives its bytes, 21
+    /// to 30: byte 1; byte 9 and nine pairs of parameter and value; how many are locked, and which. Parameters are
+    /// always in rising order, so each set has one form.
+    ///
+    /// From one reader to nine:
+    ///
+    /// ```
+    /// use motikhund::{constants::SET_SIZE, Reader};
+    ///
+    /// let (first, mut readers) = (Reader::new(), [const { Reader::new() }; 9]);
+    /// let mut room = [0; SET_SIZE];
+    /// let form = first.save(&mut room);
+    /// for reader in &mut readers {
+    ///     reader.load(form)?; // Refusal::Form: no set, and nothing has changed
+    /// }
+    /// # Ok::<(), motikhund::Refusal>(())
+    /// ```
+    pub fn save<'a>(&self, room: &'a mut [u8; SET_SIZE]) -> &'a [u8] {
+        // Control bytes and room have their size: nothing to refuse.
+        reader::save(&self.control, room).unwrap_or_default()
+    }
+
+    /// Reads the form of a set: its values are the permanent and the present ones, its locks the only ones, and the
+    /// last accepted packet is forgotten, so that a marked repeat of it is a command like any other. All else stays: a
+    /// packet begun, a message out, what is switched on. Nothing goes out on the line. Bytes that are not the form of a
+    /// set are [`Refusal::Form`], with nothing changed.
+    ///
+    /// At switch-on a reader takes what was kept; blank flash is refused, and the house defaults stay:
+    ///
+    /// ```
+    /// use motikhund::{Reader, Refusal};
+    ///
+    /// let mut reader = Reader::new();
+    /// assert_eq!(reader.load(&[0xFF; 30]), Err(Refusal::Form));
+    /// assert_eq!(reader, Reader::new());
+    /// ```
+    pub fn load(&mut self, form: &[u8]) -> Result<(), Refusal> {
+        reader::load(&mut self.control, form)
+    }
+
+    /// Whether a parameter is locked; one that is not supported is not. Only a set locks and unlocks. A PARAM_SEND that
+    /// names a locked one is [`Refusal::Setting`], and PARAM_DEFAULTS leaves it both its values.
+    pub fn locked(&self, number: u8) -> bool {
+        reader::locked(&self.control, number).unwrap_or(false)
     }
 
     /// The present value of a parameter; 0 where it is not supported.

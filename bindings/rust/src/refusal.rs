@@ -3,8 +3,7 @@
 use core::error::Error;
 use core::fmt;
 
-/// Why a call or a packet is refused, and its number (docs/PROTOCOL.md §6); 12 is unused. With 11 and 13 no lent byte
-/// changes.
+/// Why a call or a packet is refused, and its number (docs/PROTOCOL.md §6). With 11 to 13 no lent byte changes.
 #[derive(Clone, Copy, Debug, PartialEq, Eq, PartialOrd, Ord, Hash)]
 pub enum Refusal {
     /// Length below 4.
@@ -23,12 +22,14 @@ pub enum Refusal {
     Data = 7,
     /// Beep code not allowed.
     Beep = 8,
-    /// Parameter or value not allowed.
+    /// Parameter or value not allowed, or parameter locked.
     Setting = 9,
     /// Hub: barred, other code type, or too long.
     Barred = 10,
     /// Sender: message over 4,096 bytes, or one still out.
     Start = 11,
+    /// Reader: not the form of a set, or a value in it not allowed.
+    Form = 12,
     /// Lent room too small; the event is not taken.
     Room = 13,
 }
@@ -53,6 +54,7 @@ impl Refusal {
             9 => Refusal::Setting,
             10 => Refusal::Barred,
             11 => Refusal::Start,
+            12 => Refusal::Form,
             13 => Refusal::Room,
             _ => return None,
         })
@@ -70,9 +72,10 @@ impl fmt::Display for Refusal {
             Refusal::Opcode => "an opcode that this side does not know",
             Refusal::Data => "a data length that is wrong for the opcode",
             Refusal::Beep => "a beep code that is not allowed",
-            Refusal::Setting => "a parameter or value that is not allowed",
+            Refusal::Setting => "a parameter or value that is not allowed, or a parameter that is locked",
             Refusal::Barred => "the hub is barred, another code type, or too long a message",
             Refusal::Start => "a message over 4,096 bytes, or one still out",
+            Refusal::Form => "bytes that are not the form of a set, or a value in it that is not allowed",
             Refusal::Room => "a lent room that is too small",
         };
         write!(to, "refusal {}: {why}", self.number())

@@ -15,7 +15,7 @@ use Rattle.hub.specs.Joiner as joiner
 use Rattle.hub.specs.Hub as hub
 use Rattle.sender.specs.Pieces.{piecesOf, packetsOf}
 use Rattle.sender.specs.Sender as sender
-use Rattle.table.specs.Table.{defaults}
+use Rattle.table.specs.Table.{noLocks, defaults}
 use Rattle.commands.specs.Commands.{DeviceState, fresh}
 use Rattle.reader.specs.Reader.{Output, switched, answered, switchedOn, readerStep}
 
@@ -43,7 +43,8 @@ unfoldable pub readerTells : List Event → List Output
 readerTells es = through readerStep (switchedOn defaults) es .told
 
 abbrev pub withTrigger : DeviceState
-withTrigger = fresh (record { present = 0 ∷ 10 ∷ 8 ∷ 20 ∷ 6 ∷ 4 ∷ 1 ∷ 0 ∷ 1 ∷ []; permanent = 0 ∷ 10 ∷ 0 ∷ 20 ∷ 6 ∷ 4 ∷ 1 ∷ 0 ∷ 1 ∷ [] })
+withTrigger =
+    fresh (record { present = 0 ∷ 10 ∷ 8 ∷ 20 ∷ 6 ∷ 4 ∷ 1 ∷ 0 ∷ 1 ∷ []; permanent = 0 ∷ 10 ∷ 0 ∷ 20 ∷ 6 ∷ 4 ∷ 1 ∷ 0 ∷ 1 ∷ []; locked = noLocks })
 
 pub record TenCases : Type 0 where
   -- 1 to 4: the answers of hub and reader.

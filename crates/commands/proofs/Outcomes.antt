@@ -12,17 +12,17 @@ use Rattle.packet.specs.Packet.{permanentBit}
 use Rattle.packet.specs.Refusals.{numberOf, causeOf}
 use Rattle.packet.specs.declared.Refusal.{Refusal}
 use Rattle.packet.specs.declared.Refusal.the-variants as refusal
-use Rattle.table.specs.Table.{Values, Reading, wrongLength, pairs, readPairs, Outcome as Settled, done, refused as unsettled, setPairs, changed, defaults, allAllowed}
+use Rattle.table.specs.Table.{Values, Reading, wrongLength, pairs, readPairs, Outcome as Settled, done, refused as unsettled, setPairs, changed, setDefaults, allSettable}
 use Rattle.commands.specs.Beeps.{beepAllowed, sendBeepAllowed}
 use Rattle.commands.specs.Commands.{DeviceState, Acted, denied, acted, lengthAllowed, afterSend, sendCommand, beepCommand, effect, judged}
 use Rattle.commands.specs.declared.Command.{Command}
 use Rattle.commands.specs.declared.Command.the-variants.{ParamSend, ParamRequest, ParamDefaults, StartSession, StopSession, Beep, LedOn, LedOff, ScanEnable, ScanDisable, AimOn, AimOff}
 
--- Denied by number 7 to 9 and answered by NAK; or done, with a table that is the old one, the defaults, or the old one with accepted settings.
+-- Denied by number 7 to 9 and answered by NAK; or done, with a table that is the old one, that with the defaults set, or that with accepted settings.
 pub data Does (d : DeviceState) : Acted → Type 0 where
   denies : {r : Refusal} → 4 ≤ numberOf r → (causeOf r ≡ 0 → ⊥) → Does d (denied r)
   keeps : {next : DeviceState} {rows : List (List ℕ)} → next .values ≡ d .values → Does d (acted next rows)
-  resets : {next : DeviceState} {rows : List (List ℕ)} → next .values ≡ defaults → Does d (acted next rows)
+  resets : {next : DeviceState} {rows : List (List ℕ)} → next .values ≡ setDefaults (d .values) → Does d (acted next rows)
   sets : {next : DeviceState} {rows : List (List ℕ)} (forever : Bool) (reading : Reading) → setPairs forever reading (d .values) ≡ done (next .values) → Does d (acted next rows)
 
 does-test : {d : DeviceState} {x y : Acted} (b : Bool) → Does d x → Does d y → Does d (pick b x y)
@@ -37,7 +37,7 @@ denial-by false v {r} e = let f : refusal.Setting ≡ r = cc in rw (← f) (omeg
 denial : (forever : Bool) (reading : Reading) (v : Values) {r : Refusal} → setPairs forever reading v ≡ unsettled r → (4 ≤ numberOf r) × (causeOf r ≡ 0 → ⊥)
 unfolding setPairs
 denial forever wrongLength v {r} e = let f : refusal.Data ≡ r = cc in rw (← f) (omega arith, λ z. omega arith)
-denial forever (pairs ps) v e = denial-by (allAllowed ps) (changed forever ps v) e
+denial forever (pairs ps) v e = denial-by (allSettable (v .locked) ps) (changed forever ps v) e
 
 module _ (d : DeviceState) where
   settles : (forever : Bool) (reading : Reading) (code : ℕ) (o : Settled) → setPairs forever reading (d .values) ≡ o → Does d (afterSend d code o)

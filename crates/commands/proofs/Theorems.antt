@@ -1,5 +1,5 @@
 -- The theorems over the commands: what a call tells is what was done, a command is no answer, the beep codes are those of the table, values
--- stay allowed. Assumes nothing.
+-- stay allowed and what is locked is kept. Assumes nothing.
 use Prim.Native.Nat.{ℕ, zero, suc, _+_, _<_, _≤_}
 use native.Mathlib.Omega.{arith}
 use mathlib.Core.Path.{_≡_, refl}
@@ -12,8 +12,7 @@ use Rattle.words.specs.Lists.{both, either}
 use Rattle.words.proofs.Lists.{never, both-left, both-right}
 use Rattle.packet.specs.Packet.{isAnswer}
 use Rattle.packet.specs.declared.Refusal.{Refusal}
-use Rattle.table.specs.Table.{defaults}
-use Rattle.table.proofs.Theorems.{AllAllowed, accepted-allowed, at-first, reached-allowed}
+use Rattle.table.proofs.Theorems.{AllAllowed, accepted-allowed, set-defaults-allowed, KeepsLocked, keeps-same, accepted-keeps, set-defaults-keeps}
 use Rattle.commands.specs.Beeps.{beepRows, beepLimit, rowOf}
 use Rattle.commands.specs.Commands.{DeviceState, namedBy, Acted, denied, acted, judged}
 use Rattle.commands.specs.Promises.{commandedOf}
@@ -68,15 +67,22 @@ code-sounds code h = sounding-at beepRows code refl (omega (arith, rows-are-code
 
 -- ---- values
 
-defaults-all-allowed : AllAllowed defaults
-defaults-all-allowed = reached-allowed at-first
-
 pub does-allowed : {d next : DeviceState} {rows : List (List ℕ)} → Does d (acted next rows) → AllAllowed (d .values) → AllAllowed (next .values)
 does-allowed (keeps e) k = rw e k
-does-allowed (resets e) k = rw e defaults-all-allowed
+does-allowed {d} (resets e) k = rw e (set-defaults-allowed (d .values) k)
 does-allowed {d} {next} (sets forever reading e) k = accepted-allowed forever reading (d .values) (next .values) k e
 
 -- Whatever is commanded, every value stays allowed.
 pub command-allowed : (d : DeviceState) (k : Command) (status : ℕ) (bytes : List ℕ) {next : DeviceState} {rows : List (List ℕ)} → judged d k status bytes ≡ acted next rows →
     AllAllowed (d .values) → AllAllowed (next .values)
 command-allowed d k status bytes {next} {rows} e a = let does : Does d (acted next rows) = rw e at (judged-does d k status bytes) in does-allowed does a
+
+pub does-keeps : {d next : DeviceState} {rows : List (List ℕ)} → Does d (acted next rows) → KeepsLocked (d .values) (next .values)
+does-keeps {d} (keeps e) = rw e (keeps-same (d .values))
+does-keeps {d} (resets e) = rw e (set-defaults-keeps (d .values))
+does-keeps {d} {next} (sets forever reading e) = accepted-keeps forever reading (d .values) (next .values) e
+
+-- Whatever is commanded, what is locked is kept.
+pub command-keeps : (d : DeviceState) (k : Command) (status : ℕ) (bytes : List ℕ) {next : DeviceState} {rows : List (List ℕ)} → judged d k status bytes ≡ acted next rows →
+    KeepsLocked (d .values) (next .values)
+command-keeps d k status bytes {next} {rows} e = let does : Does d (acted next rows) = rw e at (judged-does d k status bytes) in does-keeps does

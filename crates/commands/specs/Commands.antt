@@ -9,7 +9,7 @@ use Rattle.packet.specs.Opcodes as opcode
 use Rattle.packet.specs.Packet.{permanentBit}
 use Rattle.packet.specs.declared.Refusal.{Refusal}
 use Rattle.packet.specs.declared.Refusal.the-variants as refusal
-use Rattle.table.specs.Table.{Values, readPairs, sendLengthAllowed, requestLengthAllowed, Outcome, done, refused, setPairs, defaults}
+use Rattle.table.specs.Table.{Values, readPairs, sendLengthAllowed, requestLengthAllowed, Outcome, done, refused, setPairs, setDefaults}
 use Rattle.commands.specs.Beeps.{beepAllowed, sendBeepAllowed, rowOf}
 use Rattle.commands.specs.declared.Command.{Command}
 use Rattle.commands.specs.declared.Command.the-variants.{ParamSend, ParamRequest, ParamDefaults, StartSession, StopSession, Beep, LedOn, LedOff, ScanEnable, ScanDisable, AimOn, AimOff}
@@ -107,7 +107,7 @@ switching d s = acted (record { values = d .values; switches = s }) []
 unfoldable pub effect : DeviceState → Command → ℕ → List ℕ → Acted
 effect d ParamSend status bytes = sendCommand d status bytes
 effect d ParamRequest status bytes = acted d []
-effect d ParamDefaults status bytes = acted (record { values = defaults; switches = d .switches }) []
+effect d ParamDefaults status bytes = acted (record { values = setDefaults (d .values); switches = d .switches }) []
 effect d StartSession status bytes = switching d (sessionStarted (d .switches))
 effect d StopSession status bytes = switching d (sessionStopped (d .switches))
 effect d Beep status bytes = beepCommand d (getD bytes 0 0)

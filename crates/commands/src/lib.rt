@@ -155,7 +155,7 @@ fn act_on(device: Device, command: Command, status: u8, data: &[u8]) -> Commande
     match command {
         Command::ParamSend => send(device, status, data),
         Command::ParamRequest => done(table, switches, Beep::Silent),
-        Command::ParamDefaults => done(table::defaults(), switches, Beep::Silent),
+        Command::ParamDefaults => done(table::set_defaults(table), switches, Beep::Silent),
         Command::StartSession => done(table, start_session(switches), Beep::Silent),
         Command::StopSession => done(table, stop_session(switches), Beep::Silent),
         Command::Beep => beep_command(device, data[0]),

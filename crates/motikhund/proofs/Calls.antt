@@ -33,16 +33,26 @@ use Rattle.sender.specs.declared.Outcome.{Outcome}
 use Rattle.sender.specs.declared.Outcome.the-variants as outcome
 use Rattle.sender.proofs.Refusing as refusing
 use Rattle.reader.proofs.Refusing as reader-refusing
+use Rattle.table.specs.Table.{Outcome as Settled, done, refused as unsettled}
 use Rattle.table.specs.Promises as settings
+use Rattle.table.specs.Promises.{changedOf}
 use Rattle.table.specs.declared.Table.{Table}
+use Rattle.table.specs.declared.Changed.{Changed}
+use Rattle.table.specs.declared.Verdict.{Verdict}
+use Rattle.table.specs.declared.Verdict.the-variants as verdict
+use Rattle.table.specs.declared.Written.{Written}
+use Rattle.saved.specs.Saved.{edition1, readForm}
+use Rattle.saved.specs.Promises as saved
 use Rattle.reader.specs.Promises as reading
 use Rattle.reader.specs.declared.Reader.{Reader}
 use Rattle.reader.specs.declared.Taken.{Taken as Commanded}
 use Rattle.reader.specs.declared.Started.{Started}
+use Rattle.reader.specs.declared.Loaded.{Loaded}
+use Rattle.reader.proofs.Loading as loading
 use Rattle.motikhund.specs.Lent.{Need, atLeast, Lacking, here, there, Enough, none, more, Asks, IfNamed, KeptUnless, Kept, Made}
-use Rattle.motikhund.specs.Control.{numberIn, numberBytes, flagIn, framerIn, framerBytes, hubIn, hubBytes, senderIn, senderBytes, readerIn, readerBytes, FramerIn, PutsNumber, PutsFramer, HubIn, PutsHub, SenderIn, PutsSender, ReaderIn, PutsReader, Switches}
-use Rattle.motikhund.specs.Numbers.{isEvent, isReply, noHead, EventOf, HeardOf, HeardNumber, ReplyOf, CheckedNumber, CheckedValues, FoundNumber, FoundValues, BuiltNumber, HubNumber, HubValues, OutcomeNumber, OutcomeValue, isRefused, OutcomeRefused, waitsNumber, ReaderNumber, ReaderValues}
-use Rattle.motikhund.specs.Promises.{PacketChecks, PacketBuilds, PacketAnswers, FramerHears, GoesOn, HubHears, Brings, SenderStarts, SenderHears, SenderWaits, SenderHeeds, FreshReader, ReaderStarts, ReaderTimesOut, ReaderHears, ReaderValue, ReaderSwitches}
+use Rattle.motikhund.specs.Control.{readerControlSize, numberIn, numberBytes, flagIn, framerIn, framerBytes, hubIn, hubBytes, senderIn, senderBytes, readerIn, readerBytes, FramerIn, PutsNumber, PutsFramer, HubIn, PutsHub, SenderIn, PutsSender, ReaderIn, PutsReader, FlagByte, Switches, PermanentChanged}
+use Rattle.motikhund.specs.Numbers.{isEvent, isReply, noHead, EventOf, HeardOf, HeardNumber, ReplyOf, CheckedNumber, CheckedValues, FoundNumber, FoundValues, BuiltNumber, HubNumber, HubValues, OutcomeNumber, OutcomeValue, isRefused, OutcomeRefused, waitsNumber, ReaderNumber, ReaderValues, verdictNumber, isUnread, WrittenNumber, WrittenSize, VerdictNumber, Unread}
+use Rattle.motikhund.specs.Promises.{PacketChecks, PacketBuilds, PacketAnswers, FramerHears, GoesOn, HubHears, Brings, SenderStarts, SenderHears, SenderWaits, SenderHeeds, FreshReader, ReaderStarts, ReaderTimesOut, ReaderHears, ReaderValue, ReaderLocked, ReaderSaves, unreadNumber, ReaderLoads, ReaderSwitches}
 use Rattle.motikhund.proofs.Reading.{number-back, framer-back, hub-back, sender-back, reader-back}
 
 -- ---- what is lent
@@ -145,12 +155,12 @@ pub sender-made : {failed : Bool} {s : Sender} {control control′ : List ℕ} �
     Made 35 senderIn senderBytes (sending.Idle failed) control 0 control′
 sender-made l idle put = made l idle (sender-kept put)
 
-pub reader-made : {t : Table} {r : Reader} {control control′ : List ℕ} → 83 ≤ length control → settings.Defaults t → reading.SwitchedOn t r → PutsReader r control control′ →
-    Made 83 readerIn readerBytes FreshReader control 0 control′
+pub reader-made : {t : Table} {r : Reader} {control control′ : List ℕ} → readerControlSize ≤ length control → settings.Defaults t → reading.SwitchedOn t r → PutsReader r control control′ →
+    Made readerControlSize readerIn readerBytes FreshReader control 0 control′
 reader-made {t} l defaults on put = made l (record { table = t; defaults = defaults; switched = on }) (reader-kept put)
 
-pub reader-woken : {before r : Reader} {control control′ : List ℕ} → 83 ≤ length control → ReaderIn control before → reading.PowersUp before r → PutsReader r control control′ →
-    Made 83 readerIn readerBytes (reading.PowersUp (readerIn control)) control 0 control′
+pub reader-woken : {before r : Reader} {control control′ : List ℕ} → readerControlSize ≤ length control → ReaderIn control before → reading.PowersUp before r → PutsReader r control control′ →
+    Made readerControlSize readerIn readerBytes (reading.PowersUp (readerIn control)) control 0 control′
 reader-woken l before-is powers put = made l (rw (before-is .is) at powers) (reader-kept put)
 
 -- ---- the packet
@@ -299,11 +309,11 @@ sender-heeds {h = h} heeds told = record { heard = h; heeds = heeds; told = told
 
 -- ---- the reader
 
-pub reader-start-13 : {control message copy bytes : List ℕ} {code : ℕ} → Lacking (atLeast 83 control ∷ atLeast 257 copy ∷ []) →
+pub reader-start-13 : {control message copy bytes : List ℕ} {code : ℕ} → Lacking (atLeast readerControlSize control ∷ atLeast 257 copy ∷ []) →
     ReaderStarts control message copy code bytes 13 control message copy 0
 reader-start-13 k = record { asks = asks-13 k (refl, refl, refl, refl, refl) }
 
-module _ {control message copy bytes message′ copy′ : List ℕ} {code value : ℕ} {before : Reader} {started : Started} {refused : Bool} (c : 83 ≤ length control) (l : 257 ≤ length copy)
+module _ {control message copy bytes message′ copy′ : List ℕ} {code value : ℕ} {before : Reader} {started : Started} {refused : Bool} (c : readerControlSize ≤ length control) (l : 257 ≤ length copy)
     (before-is : ReaderIn control before) (starts : reading.Starts before message copy code bytes started message′ copy′) (value-is : OutcomeValue (started .outcome) value)
     (is-refused : OutcomeRefused (started .outcome) refused) where
   reader-start-leaves : {control′ : List ℕ} {r : ℕ} → KeptUnless (isRefused (started .outcome)) readerIn readerBytes (started .reader) control control′ →
@@ -320,11 +330,11 @@ module _ {control message copy bytes message′ copy′ : List ℕ} {code value 
       ReaderStarts control message copy code bytes r control′ message′ copy′ value
   reader-starts e put told = reader-start-leaves (put-back (sym (is-refused .is) ∙ e) (reader-kept put)) told
 
-pub time-out-13 : {control message copy : List ℕ} → Lacking (atLeast 83 control ∷ atLeast 257 copy ∷ []) → ReaderTimesOut control message copy 13 control copy 0
+pub time-out-13 : {control message copy : List ℕ} → Lacking (atLeast readerControlSize control ∷ atLeast 257 copy ∷ []) → ReaderTimesOut control message copy 13 control copy 0
 time-out-13 k = record { asks = asks-13 k (refl, refl, refl, refl) }
 
 pub reader-times-out : {control message copy control′ copy′ : List ℕ} {r value : ℕ} {before : Reader} {started : Started} →
-    83 ≤ length control →
+    readerControlSize ≤ length control →
     257 ≤ length copy →
     ReaderIn control before →
     reading.TimesOut before message copy started copy′ →
@@ -335,40 +345,100 @@ pub reader-times-out : {control message copy control′ copy′ : List ℕ} {r v
 reader-times-out {started = started} c l before-is times put value told =
     record { asks = asks-enough (more c (more l none)) (record { started = started; times = rw (before-is .is) at times; brings = brings value told; kept = reader-kept put }) }
 
-pub reader-13 : {control line answers message answer copy : List ℕ} {n : ℕ} → Lacking (atLeast 83 control ∷ atLeast 25 answer ∷ atLeast 257 copy ∷ []) →
-    ReaderHears control line answers message answer copy n 13 control line answers answer copy (0 ∷ 0 ∷ 0 ∷ 0 ∷ 0 ∷ [])
+pub reader-13 : {control line answers message answer copy : List ℕ} {n : ℕ} → Lacking (atLeast readerControlSize control ∷ atLeast 25 answer ∷ atLeast 257 copy ∷ []) →
+    ReaderHears control line answers message answer copy n 13 control line answers answer copy (0 ∷ 0 ∷ 0 ∷ 0 ∷ 0 ∷ 0 ∷ [])
 reader-13 k = record { asks = asks-13 k (refl, refl, refl, refl, refl, refl, refl) }
 
-module _ {control line answers message answer copy : List ℕ} {n : ℕ} (c : 83 ≤ length control) (a : 25 ≤ length answer) (l : 257 ≤ length copy) where
-  pub reader-none : 257 < n → ReaderHears control line answers message answer copy n 0 control line answers answer copy (0 ∷ 0 ∷ 0 ∷ 0 ∷ 0 ∷ [])
+module _ {control line answers message answer copy : List ℕ} {n : ℕ} (c : readerControlSize ≤ length control) (a : 25 ≤ length answer) (l : 257 ≤ length copy) where
+  pub reader-none : 257 < n → ReaderHears control line answers message answer copy n 0 control line answers answer copy (0 ∷ 0 ∷ 0 ∷ 0 ∷ 0 ∷ 0 ∷ [])
   reader-none m = record { asks = asks-enough (more c (more a (more l none))) (passed (no-event m) (refl, refl, refl, refl, refl, refl, refl)) }
 
-  pub reader-hears : {control′ line′ answers′ answer′ copy′ values : List ℕ} {r : ℕ} {before : Reader} {e : Event} {taken : Commanded} →
+  pub reader-hears : {control′ line′ answers′ answer′ copy′ values : List ℕ} {r : ℕ} {before : Reader} {e : Event} {taken : Commanded} {changed : Bool} →
       n ≤ 257 →
       ReaderIn control before →
       EventOf n e →
       reading.Hears before line answers message answer copy e taken line′ answers′ answer′ copy′ →
+      PermanentChanged control (taken .reader) changed →
       PutsReader (taken .reader) control control′ →
-      ReaderValues (taken .told) (taken .answer) (taken .outcome) values →
+      ReaderValues (taken .told) (taken .answer) (taken .outcome) changed values →
       ReaderNumber (taken .told) (taken .outcome) r →
       ReaderHears control line answers message answer copy n r control′ line′ answers′ answer′ copy′ values
-  reader-hears {taken = taken} m before-is event hears put values told =
+  reader-hears {taken = taken} m before-is event hears changes put values told =
       record {
         asks =
             asks-enough (more c (more a (more l none)))
             (taken-by (is-event m)
-            (record { taken = taken; hears = rw (before-is .is, event .is) at hears; told = told .is; values-are = values .is; kept = reader-kept put }));
+            (record {
+              taken = taken;
+              hears = rw (before-is .is, event .is) at hears;
+              told = told .is;
+              values-are = values .is ∙ rw (changes .is) refl;
+              kept = reader-kept put;
+            }));
       }
 
-pub value-13 : {control : List ℕ} {number : ℕ} → Lacking (atLeast 83 control ∷ []) → ReaderValue control number 13 0
+pub value-13 : {control : List ℕ} {number : ℕ} → Lacking (atLeast readerControlSize control ∷ []) → ReaderValue control number 13 0
 value-13 k = record { asks = asks-13 k (refl, refl) }
 
-pub reader-value : {control : List ℕ} {number shown value : ℕ} {before : Reader} → 83 ≤ length control → ReaderIn control before →
+pub reader-value : {control : List ℕ} {number shown value : ℕ} {before : Reader} → readerControlSize ≤ length control → ReaderIn control before →
     settings.Value (before .device .table) number shown → Wide shown value → ReaderValue control number 0 value
 reader-value c before-is shows wide = record { asks = asks-enough (more c none) (record { shows = rw (before-is .is, ← wide .is) at shows; told = refl }) }
 
-pub switches-13 : {control : List ℕ} → Lacking (atLeast 83 control ∷ []) → ReaderSwitches control 13 (0 ∷ 0 ∷ 0 ∷ 0 ∷ [])
+pub switches-13 : {control : List ℕ} → Lacking (atLeast readerControlSize control ∷ []) → ReaderSwitches control 13 (0 ∷ 0 ∷ 0 ∷ 0 ∷ [])
 switches-13 k = record { asks = asks-13 k (refl, refl) }
 
-pub reader-switches : {control values : List ℕ} {before : Reader} → 83 ≤ length control → ReaderIn control before → Switches (before .device) values → ReaderSwitches control 0 values
+pub reader-switches : {control values : List ℕ} {before : Reader} → readerControlSize ≤ length control → ReaderIn control before → Switches (before .device) values → ReaderSwitches control 0 values
 reader-switches c before-is switches = record { asks = asks-enough (more c none) (refl, switches .is ∙ rw (before-is .is) refl) }
+
+-- ---- the saved set
+
+pub locked-13 : {control : List ℕ} {number : ℕ} → Lacking (atLeast readerControlSize control ∷ []) → ReaderLocked control number 13 0
+locked-13 k = record { asks = asks-13 k (refl, refl) }
+
+pub reader-locked : {control : List ℕ} {number flag value : ℕ} {held : Bool} {before : Reader} → readerControlSize ≤ length control → ReaderIn control before →
+    settings.Locked (before .device .table) number held → FlagByte held flag → Wide flag value → ReaderLocked control number 0 value
+reader-locked {held = held} c before-is locked flag wide =
+    record { asks = asks-enough (more c none) (record { held = held; locked = rw (before-is .is) at locked; value-is = wide .is ∙ flag .is; told = refl }) }
+
+pub save-13 : {control room : List ℕ} → Lacking (atLeast readerControlSize control ∷ []) → ReaderSaves control room 13 room 0
+save-13 k = record { asks = asks-13 k (refl, refl, refl) }
+
+pub reader-saves : {control room room′ : List ℕ} {r size : ℕ} {made : Written} {before : Reader} → readerControlSize ≤ length control → ReaderIn control before →
+    saved.Saves (before .device .table) room made room′ → WrittenSize made size → WrittenNumber made r → ReaderSaves control room r room′ size
+reader-saves {made = made} c before-is saves size told =
+    record { asks = asks-enough (more c none) (record { made = made; saves = rw (before-is .is) at saves; told = told .is; value = size .is }) }
+
+unread-by : (t : Table) (o : Settled) → verdictNumber (changedOf t o .verdict) 13 ≡ unreadNumber o
+unfolding changedOf
+unread-by t (done v) = refl
+unread-by t (unsettled x) = refl
+
+pub load-13 : {control form : List ℕ} {t : Table} {read : Changed} {r : ℕ} → Lacking (atLeast readerControlSize control ∷ []) → saved.Loads t form read → VerdictNumber (read .verdict) 13 r →
+    ReaderLoads control form r control
+load-13 {form = form} {t} k loads told =
+    record { asks = asks-13 k (told .is ∙ (rw (loads .is) (unread-by t (readForm edition1 form))), refl) }
+
+unread-named : {A : Type 0} (v : Verdict) → isUnread v ≡ true → ((x : Refusal) → v ≡ verdict.Refused x → A) → A
+unread-named verdict.Done e k = never (cc)
+unread-named (verdict.Refused x) e k = k x refl
+
+read-number : (v : Verdict) → isUnread v ≡ false → 0 ≡ verdictNumber v 0
+read-number verdict.Done e = refl
+read-number (verdict.Refused x) e = never (cc)
+
+module _ {control form : List ℕ} {before : Reader} {loaded : Loaded} {unread : Bool} (c : readerControlSize ≤ length control) (before-is : ReaderIn control before)
+    (loads : reading.Loads before form loaded) (is-unread : Unread (loaded .verdict) unread) where
+  reader-leaves : {control′ : List ℕ} {r : ℕ} → KeptUnless (isUnread (loaded .verdict)) readerIn readerBytes (loaded .reader) control control′ →
+      VerdictNumber (loaded .verdict) 0 r → ReaderLoads control form r control′
+  reader-leaves kept told =
+      record { asks = asks-enough (more c none) (record { loaded = loaded; loads = rw (before-is .is) at loads; told = told .is; kept = kept }) }
+
+  pub reader-unread : {r : ℕ} → unread ≡ true → VerdictNumber (loaded .verdict) 0 r → ReaderLoads control form r control
+  reader-unread e told =
+      let f = sym (is-unread .is) ∙ e in
+      reader-leaves (alone f (before-is .is) (unread-named (loaded .verdict) f (λ x q. loading.refused-same loads q))) told
+
+  pub reader-loads : {control′ : List ℕ} → unread ≡ false → PutsReader (loaded .reader) control control′ → ReaderLoads control form 0 control′
+  reader-loads e put =
+      let f = sym (is-unread .is) ∙ e in
+      reader-leaves (put-back f (reader-kept put)) (record { is = read-number (loaded .verdict) f })

@@ -9,7 +9,7 @@ use lib.Dec.{eqb, ltb}
 use lib.ListN.{length}
 use borrow.Author.Tests.{le-ltb, eq-eqb}
 use Rattle.words.specs.Lists.{pick, over, Each, none, one}
-use Rattle.words.proofs.Lists.{over-nil, never}
+use Rattle.words.proofs.Lists.{over-nil, never, same-refl}
 use Rattle.packet.specs.Packet.{bodyOf, seal, replyBody, written, sizeOf}
 use Rattle.packet.specs.Refusals.{numberOf}
 use Rattle.packet.specs.declared.Refusal.{Refusal}
@@ -28,15 +28,26 @@ use Rattle.hub.proofs.Refusing as joining-refuses
 use Rattle.sender.specs.declared.Outcome.{Outcome}
 use Rattle.sender.specs.declared.Outcome.the-variants as outcome
 use Rattle.sender.proofs.Refusing as sending
+use Rattle.table.specs.Table.{Outcome as Settled, done, refused as unsettled}
+use Rattle.table.specs.declared.Verdict.{Verdict}
+use Rattle.table.specs.declared.Verdict.the-variants as verdict
+use Rattle.table.specs.declared.Written.{Written}
+use Rattle.table.specs.declared.Written.the-variants as made
+use Rattle.saved.specs.Saved.{edition1, readForm}
+use Rattle.saved.proofs.Writing.{save-refused}
+use Rattle.saved.proofs.Theorems.{read-refusal}
 use Rattle.reader.specs.Promises as reading
+use Rattle.reader.specs.declared.Reader.{Reader}
 use Rattle.reader.specs.declared.Told.{Told as Commanded}
 use Rattle.reader.specs.declared.Told.the-variants as commanded
 use Rattle.reader.specs.declared.Started.{Started}
 use Rattle.reader.proofs.Refusing as reading-refuses
+use Rattle.reader.proofs.Loading as loading
 use Rattle.motikhund.specs.Lent.{Need, atLeast, Enough, none as no-more, more, Asks, IfNamed, KeptUnless, Made}
-use Rattle.motikhund.specs.Numbers.{replyOf, RefusalNumber, checkedNumber, checkedValues, foundNumber, foundValues, builtNumber, hubNumber, hubValues, outcomeNumber, outcomeValue, isRefused, waitsNumber, readerNumber, readerValues}
-use Rattle.motikhund.specs.Promises.{PacketChecks, PacketBuilds, PacketAnswers, FramerIdle, FramerHears, HubOn, HubHears, SenderIdle, SenderStarts, SenderHears, SenderWaits, ReaderOn, ReaderPowersUp, ReaderStarts, ReaderTimesOut, ReaderHears, ReaderValue, ReaderSwitches}
-use Rattle.motikhund.specs.Refused.{lent, same, Untouched, Refuses13, StartRefuses, EventRefuses, FramerTaken, HubTaken, ReaderTaken}
+use Rattle.motikhund.specs.Control.{readerControlSize, readerIn, permanentChanged}
+use Rattle.motikhund.specs.Numbers.{replyOf, RefusalNumber, checkedNumber, checkedValues, foundNumber, foundValues, builtNumber, hubNumber, hubValues, outcomeNumber, outcomeValue, isRefused, waitsNumber, readerNumber, readerValues, writtenNumber, verdictNumber}
+use Rattle.motikhund.specs.Promises.{PacketChecks, PacketBuilds, PacketAnswers, FramerIdle, FramerHears, HubOn, HubHears, SenderIdle, SenderStarts, SenderHears, SenderWaits, ReaderOn, ReaderPowersUp, ReaderStarts, ReaderTimesOut, ReaderHears, ReaderValue, ReaderLocked, ReaderSaves, unreadNumber, ReaderLoads, ReaderSwitches}
+use Rattle.motikhund.specs.Refused.{lent, same, Untouched, Refuses13, StartRefuses, LoadRefuses, EventRefuses, FramerTaken, HubTaken, ReaderTaken}
 use Rattle.motikhund.proofs.Unique.{decided}
 
 -- ---- numbers of refusals
@@ -54,6 +65,7 @@ number-least refusal.Beep = omega arith
 number-least refusal.Setting = omega arith
 number-least refusal.Barred = omega arith
 number-least refusal.Start = omega arith
+number-least refusal.Form = omega arith
 number-least refusal.Room = omega arith
 
 pub number-most : (x : Refusal) → numberOf x ≤ 13
@@ -68,6 +80,7 @@ number-most refusal.Beep = omega arith
 number-most refusal.Setting = omega arith
 number-most refusal.Barred = omega arith
 number-most refusal.Start = omega arith
+number-most refusal.Form = omega arith
 number-most refusal.Room = omega arith
 
 -- so that nothing else that is told has one of them,
@@ -88,7 +101,8 @@ refusalOf n =
     (pick (eqb n 8) refusal.Beep
     (pick (eqb n 9) refusal.Setting
     (pick (eqb n 10) refusal.Barred
-    (pick (eqb n 11) refusal.Start refusal.Room))))))))))
+    (pick (eqb n 11) refusal.Start
+    (pick (eqb n 12) refusal.Form refusal.Room)))))))))))
 
 number-back : (x : Refusal) → refusalOf (numberOf x) ≡ x
 unfolding refusalOf
@@ -103,6 +117,7 @@ number-back refusal.Beep = refl
 number-back refusal.Setting = refl
 number-back refusal.Barred = refl
 number-back refusal.Start = refl
+number-back refusal.Form = refl
 number-back refusal.Room = refl
 
 pub same-number : {x y : Refusal} → RefusalNumber x (numberOf y) → y ≡ x
@@ -175,8 +190,8 @@ zeros-3 e = rw e (one refl (one refl (one refl none)))
 zeros-4 : {values : List ℕ} → values ≡ 0 ∷ 0 ∷ 0 ∷ 0 ∷ [] → Each (λ (n : ℕ). n ≡ 0) values
 zeros-4 e = rw e (one refl (one refl (one refl (one refl none))))
 
-zeros-5 : {values : List ℕ} → values ≡ 0 ∷ 0 ∷ 0 ∷ 0 ∷ 0 ∷ [] → Each (λ (n : ℕ). n ≡ 0) values
-zeros-5 e = rw e (one refl (one refl (one refl (one refl (one refl none)))))
+zeros-6 : {values : List ℕ} → values ≡ 0 ∷ 0 ∷ 0 ∷ 0 ∷ 0 ∷ 0 ∷ [] → Each (λ (n : ℕ). n ≡ 0) values
+zeros-6 e = rw e (one refl (one refl (one refl (one refl (one refl (one refl none))))))
 
 -- ---- the packet
 
@@ -254,6 +269,56 @@ pub reader-switches-refuses : {control values : List ℕ} {r : ℕ} {x : Refusal
 reader-switches-refuses k q =
     by-asks (k .asks) (λ a. record { number = a .0; untouched = record { buffers-same = none; values-zero = zeros-4 (a .1) } })
     (λ e a. not-told (told-as (a .0) q) (inl (omega arith)))
+
+-- `mk_reader_locked`
+pub reader-locked-refuses : {control : List ℕ} {number r value : ℕ} {x : Refusal} → ReaderLocked control number r value → RefusalNumber x r → Refuses13 r [] (value ∷ [])
+reader-locked-refuses k q =
+    by-asks (k .asks) (λ a. record { number = a .0; untouched = record { buffers-same = none; values-zero = zeros-1 (a .1) } })
+    (λ e a. not-told (told-as (a .told) q) (inl (omega arith)))
+
+-- ---- the saved set
+
+-- `mk_reader_save`: the control value is only read.
+one-untouched : {room room′ : List ℕ} {value : ℕ} → room′ ≡ room → value ≡ 0 → Untouched (lent room room′ ∷ []) (value ∷ [])
+one-untouched s v = record { buffers-same = one (same s) none; values-zero = zeros-1 v }
+
+written-refused : {A : Type 0} {n : ℕ} {x : Refusal} (w : Written) → n ≡ writtenNumber w → RefusalNumber x n → ((y : Refusal) → w ≡ made.Refused y → A) → A
+written-refused (made.Bytes size) e q k = not-told (told-as e q) (inr (omega arith))
+written-refused (made.Refused y) e q k = k y refl
+
+pub reader-save-refuses : {control room room′ : List ℕ} {r size : ℕ} {x : Refusal} → ReaderSaves control room r room′ size → RefusalNumber x r →
+    Refuses13 r (lent room room′ ∷ []) (size ∷ [])
+reader-save-refuses k q =
+    by-asks (k .asks) (λ a. record { number = a .0; untouched = one-untouched (a .1) (a .2) })
+    (λ e a.
+    written-refused (a .made) (a .told) q
+    (λ y f.
+    let s = save-refused (a .saves) f in
+    record { number = a .told ∙ rw (f, s .0) refl; untouched = one-untouched (s .1) (a .value ∙ rw f refl) }))
+
+-- `mk_reader_load`: the form is only read.
+unread-number : {r : ℕ} (o : Settled) → ((x : Refusal) → o ≡ unsettled x → x ≡ refusal.Form) → r ≡ unreadNumber o → (r ≡ 12) ⊎ (r ≡ 13)
+unread-number (done v) k e = inr e
+unread-number (unsettled x) k e = inl (e ∙ ap numberOf (k x refl))
+
+load-untouched : {control control′ : List ℕ} → control′ ≡ control → Untouched (lent control control′ ∷ []) []
+load-untouched e = record { buffers-same = one (same e) none; values-zero = none }
+
+verdict-refused : {A : Type 0} {n : ℕ} {x : Refusal} (v : Verdict) → n ≡ verdictNumber v 0 → RefusalNumber x n → ((y : Refusal) → v ≡ verdict.Refused y → A) → A
+verdict-refused verdict.Done e q k = not-told (told-as e q) (inl (omega arith))
+verdict-refused (verdict.Refused y) e q k = k y refl
+
+pub reader-load-refuses : {control form control′ : List ℕ} {r : ℕ} {x : Refusal} → ReaderLoads control form r control′ → RefusalNumber x r → LoadRefuses r (lent control control′ ∷ []) []
+reader-load-refuses {form = form} k q =
+    by-asks (k .asks)
+    (λ a. record { number = unread-number (readForm edition1 form) (λ x f. read-refusal edition1 form f) (a .0); untouched = load-untouched (a .1) })
+    (λ e a.
+    verdict-refused (a .loaded .verdict) (a .told) q
+    (λ y f.
+    record {
+      number = inl (a .told ∙ rw (f, loading.refused-form (a .loads) f) refl);
+      untouched = load-untouched (a .kept .control-is ∙ rw f refl);
+    }))
 
 -- ---- starts
 
@@ -343,7 +408,7 @@ pub hub-room : {control answer message : List ℕ} → Enough (atLeast 29 contro
 unfolding joining.tooSmall
 hub-room {answer = answer} {message} (more c (more a (more m no-more))) = simp (le-ltb (length answer) 7 a, le-ltb (length message) 4096 m)
 
-pub reader-room : {control answer copy : List ℕ} → Enough (atLeast 83 control ∷ atLeast 25 answer ∷ atLeast 257 copy ∷ []) → reading.tooSmall answer copy ≡ false
+pub reader-room : {control answer copy : List ℕ} → Enough (atLeast readerControlSize control ∷ atLeast 25 answer ∷ atLeast 257 copy ∷ []) → reading.tooSmall answer copy ≡ false
 unfolding reading.tooSmall
 reader-room {answer = answer} {copy} (more c (more a (more l no-more))) = simp (le-ltb (length answer) 25 a, le-ltb (length copy) 257 l)
 
@@ -392,10 +457,10 @@ hub-hear-refuses k q =
       by-others = λ h. record { taken = a .taken; kept = a .kept; refuses = g; values-are = a .values-are ∙ ap (λ (t : Told). hubValues t (a .taken .answer)) f };
     }))
 
-quiet-values : {t : Commanded} {o : Outcome} {answer : ℕ} {values : List ℕ} {x : Refusal} → t ≡ commanded.Refused x → o ≡ outcome.Nothing → values ≡ readerValues t answer o →
-    values ≡ answer ∷ 0 ∷ 0 ∷ 0 ∷ 0 ∷ []
-unfolding readerValues
-quiet-values f s e = e ∙ rw (f, s) refl
+quiet-values : (before after : Reader) {t : Commanded} {o : Outcome} {answer : ℕ} {values : List ℕ} {x : Refusal} → t ≡ commanded.Refused x → o ≡ outcome.Nothing → after .device ≡ before .device →
+    values ≡ readerValues t answer o (permanentChanged before after) → values ≡ answer ∷ 0 ∷ 0 ∷ 0 ∷ 0 ∷ 0 ∷ []
+unfolding readerValues permanentChanged
+quiet-values before after f s d e = e ∙ rw (f, s, d, same-refl (before .device .table .permanent)) refl
 
 -- `mk_reader_hear`: the message buffer is only read.
 pub reader-hear-refuses : {control line answers message answer copy control′ line′ answers′ answer′ copy′ values : List ℕ} {n r : ℕ} {x : Refusal} →
@@ -403,13 +468,13 @@ pub reader-hear-refuses : {control line answers message answer copy control′ l
     RefusalNumber x r →
     EventRefuses r (lent control control′ ∷ lent line line′ ∷ lent answers answers′ ∷ lent answer answer′ ∷ lent copy copy′ ∷ []) values
     (ReaderTaken x n control control′ line line′ answers answers′ message answer answer′ copy copy′ values)
-reader-hear-refuses k q =
+reader-hear-refuses {control} k q =
     by-asks (k .asks)
     (λ a.
     record {
       by-13 =
           λ z.
-          record { buffers-same = one (same (a .1)) (one (same (a .2)) (one (same (a .3)) (one (same (a .4)) (one (same (a .5)) none)))); values-zero = zeros-5 (a .6) };
+          record { buffers-same = one (same (a .1)) (one (same (a .2)) (one (same (a .3)) (one (same (a .4)) (one (same (a .5)) none)))); values-zero = zeros-6 (a .6) };
       by-others = λ h. absurd (h (a .0));
     })
     (λ e n.
@@ -419,5 +484,5 @@ reader-hear-refuses k q =
     let g = reading-refuses.hear-refuses (a .hears) f in
     record {
       by-13 = λ z. absurd (not-13 q (reader-room e) (g .number-13) z);
-      by-others = λ h. record { taken = a .taken; kept = a .kept; refuses = g; values-are = quiet-values f (g .nothing-sent) (a .values-are) };
+      by-others = λ h. record { taken = a .taken; kept = a .kept; refuses = g; values-are = quiet-values (readerIn control) (a .taken .reader) f (g .nothing-sent) (g .device-same) (a .values-are) };
     }))

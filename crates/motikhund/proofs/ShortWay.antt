@@ -11,7 +11,7 @@ use lib.ListN.{length, getD, take, drop, length-take, take-append-drop}
 use lib.Seq.{getD-drop}
 use borrow.Author.Tests.{le-leb, ltb-true, eqb-true}
 use Rattle.words.specs.Lists.{pick, over}
-use Rattle.words.proofs.Lists.{never, length-over, drop-over}
+use Rattle.words.proofs.Lists.{never, length-over, drop-over, same-refl}
 use Rattle.framer.specs.Halves.{halvesWith, tellsNothing, lineIn, goesOn, goingBy, listenedOf, bufferAfter, on, left}
 use Rattle.framer.specs.Halves as halves
 use Rattle.framer.specs.Framer.{hearing}
@@ -30,7 +30,7 @@ use Rattle.hub.proofs.ShortWay as joining-short
 use Rattle.reader.specs.Reader.{readerAnswerSize}
 use Rattle.reader.specs.declared.Taken.{Taken as Commanded}
 use Rattle.reader.proofs.ShortWay as reading-short
-use Rattle.motikhund.specs.Control.{goingSize, hubControlSize, readerControlSize, numberBytes, numberIn, halfIn, flagIn, framerIn, framerBytes, halvesIn, hubIn, readerIn}
+use Rattle.motikhund.specs.Control.{goingSize, hubControlSize, readerControlSize, numberBytes, numberIn, halfIn, flagIn, framerIn, framerBytes, halvesIn, hubIn, readerIn, permanentChanged}
 use Rattle.motikhund.specs.Lent.{Need, atLeast, Enough, more}
 use Rattle.motikhund.specs.Numbers.{isEvent, eventOf, hubNumber, hubValues, readerNumber, readerValues}
 use Rattle.motikhund.specs.Promises.{wentOn, FrontAfter, GoesOn, HubHears, ReaderHears}
@@ -231,9 +231,9 @@ pub short-way-reader : {control line answers message answer copy front′ line�
     × (answers′ ≡ answers)
     × (answer′ ≡ answer)
     × (copy′ ≡ copy)
-    × (values ≡ 0 ∷ 0 ∷ 0 ∷ 0 ∷ 0 ∷ [])
+    × (values ≡ 0 ∷ 0 ∷ 0 ∷ 0 ∷ 0 ∷ 0 ∷ [])
     × (readerIn control′ ≡ readerIn (over front′ control))
-unfolding readerIn readerValues
+unfolding readerIn readerValues permanentChanged
 short-way-reader {control} {line} {front′ = front′} {line₁} {n = n} k e h =
     let w = went control (first-enough e (omega arith)) line n front′ line₁ k in
     let a = h .asks .takes e .takes (w .named) in
@@ -243,7 +243,9 @@ short-way-reader {control} {line} {front′ = front′} {line₁} {n = n} k e h 
       s .2,
       s .3,
       s .4,
-      a .values-are ∙ ap (λ (t : Commanded). readerValues (t .told) (t .answer) (t .outcome)) (s .0),
+      a .values-are
+          ∙ (ap (λ (t : Commanded). readerValues (t .told) (t .answer) (t .outcome) (permanentChanged (readerIn control) (t .reader))) (s .0)
+          ∙ rw (same-refl (readerIn control .device .table .permanent)) refl),
       a .kept .reads
-          ∙ (ap (λ (t : Commanded). t .reader) (s .0) ∙ rw (w .front-read, w .halves-are, w .behind 18 (omega arith), w .behind 26 (omega arith), w .behind 48 (omega arith)) refl),
+          ∙ (ap (λ (t : Commanded). t .reader) (s .0) ∙ rw (w .front-read, w .halves-are, w .behind 18 (omega arith), w .behind 26 (omega arith), w .behind 57 (omega arith)) refl),
     )

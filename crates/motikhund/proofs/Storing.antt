@@ -1,12 +1,13 @@
 -- What the stores of a control value leave: each part behind the one before it. Assumes nothing.
-use Prim.Native.Nat.{ℕ, _+_, _-_, _/_, _%_, _≤_}
-use mathlib.Core.Path.{_≡_, refl, ap, _∙_}
-use mathlib.Core.Bool.{Bool}
+use Prim.Native.Nat.{ℕ, zero, suc, _+_, _-_, _/_, _%_, _<_, _≤_}
+use mathlib.Core.Path.{_≡_, refl, sym, ap, _∙_}
+use mathlib.Core.Bool.{Bool, false}
 use mathlib.Core.List.{List, [], _∷_, _++_, append-assoc}
 use native.Mathlib.Omega.{arith}
-use lib.ListN.{length, take, drop, set, length-append, length-take, length-drop}
+use lib.ListN.{length, getD, take, drop, set, length-append, length-take, length-drop}
 use Rattle.words.specs.Lists.{over, Over, Copied}
-use Rattle.words.proofs.Lists.{length-over, part-over, over-behind, copied-over}
+use Rattle.words.proofs.Lists.{back, behind, length-over, copied-over}
+use Rattle.words.proofs.Loops.{Copying, copied-none, copied-more, copied-all}
 use Rattle.framer.specs.declared.Framer.{Framer}
 use Rattle.framer.specs.declared.Halves.{Halves}
 use Rattle.hub.specs.declared.Gathering.{Gathering}
@@ -15,7 +16,7 @@ use Rattle.sender.specs.declared.Sender.{Sender}
 use Rattle.table.specs.declared.Table.{Table}
 use Rattle.commands.specs.declared.Device.{Device}
 use Rattle.reader.specs.declared.Reader.{Reader}
-use Rattle.motikhund.specs.Control.{halfBytes, numberBytes, Small, flagByte, framerBytes, halvesBytes, gatheringBytes, hubBytes, senderBytes, tableBytes, deviceBytes, readerBytes, SizedTable, PutsHalf, PutsNumber, PutsTwo, FlagByte, PutsFlag, PutsFramer, PutsHalves, PutsGathering, PutsHub, PutsSender, PutsTable, PutsDevice, PutsReader}
+use Rattle.motikhund.specs.Control.{halfBytes, numberBytes, Small, flagByte, flagBytes, framerBytes, halvesBytes, gatheringBytes, hubBytes, senderBytes, tableBytes, deviceBytes, readerBytes, SizedTable, PutsHalf, PutsNumber, PutsTwo, FlagByte, PutsFlag, PutsFramer, PutsHalves, PutsGathering, PutsHub, PutsSender, PutsLocks, PutsTable, PutsDevice, PutsReader}
 
 -- ---- one to four stores
 
@@ -44,16 +45,6 @@ unfolding halfBytes
 half-put k = record { is = k .is }
 
 -- ---- a part behind the one before it
-
--- What was lent from a place on has come back.
-abbrev back : ℕ → List ℕ → List ℕ → List ℕ
-back a part room = take a room ++ (part ++ drop (length room - a) (drop a room))
-
-behind : (a : ℕ) (p q room room₁ part : List ℕ) → length p ≡ a → a + length q ≤ length room → room₁ ≡ over p room →
-    part ≡ over q (take (length room₁ - a) (drop a room₁)) → back a part room₁ ≡ over (p ++ q) room
-behind a p q room room₁ part e h k m =
-    let long : length room₁ ≡ length room = ap length k ∙ length-over p room (omega arith) in
-    part-over a (length room₁ - a) q room₁ part (omega arith) (omega arith) m ∙ rw k (over-behind a p q room e)
 
 half-long : (n : ℕ) → length (halfBytes n) ≡ 4
 unfolding halfBytes
@@ -173,47 +164,78 @@ sender-long : (s : Sender) → length (senderBytes s) ≡ 35
 unfolding halfBytes numberBytes senderBytes
 sender-long s = refl
 
-pub table-long : (t : Table) → SizedTable t → length (tableBytes t) ≡ 18
-unfolding tableBytes
-table-long t k = length-append (t .present) (t .permanent) ∙ omega (arith, k .present, k .permanent)
+pub flags-long : (bs : List Bool) → length (flagBytes bs) ≡ length bs
+flags-long [] = refl
+flags-long (b ∷ bs) = ap suc (flags-long bs)
 
-pub device-long : (d : Device) → SizedTable (d .table) → length (deviceBytes d) ≡ 22
+pub table-long : (t : Table) → SizedTable t → length (tableBytes t) ≡ 27
+unfolding tableBytes
+table-long t k = simp length-append (omega (arith, k .present, k .permanent, k .locked, flags-long (t .locked)))
+
+pub device-long : (d : Device) → SizedTable (d .table) → length (deviceBytes d) ≡ 31
 unfolding deviceBytes
 device-long d k = simp length-append (omega (arith, table-long (d .table) k))
 
-pub table-put : {t : Table} {room room₁ part : List ℕ} → 18 ≤ length room → length (t .present) ≡ 9 → length (t .permanent) ≡ 9 →
-    Copied (t .present) room room₁ → Copied (t .permanent) (take (length room₁ - 9) (drop 9 room₁)) part → PutsTable t room (back 9 part room₁)
+-- The flags of the first i locks are written.
+flag-at : (locked : List Bool) (i : ℕ) → i < length locked → getD (flagBytes locked) i 0 ≡ flagByte (getD locked i false)
+flag-at [] i h = absurd (omega arith)
+flag-at (b ∷ bs) zero h = refl
+flag-at (b ∷ bs) (suc i) h = flag-at bs i (omega arith)
+
+pub record Flagging (locked : List Bool) (room₀ room : List ℕ) (i : ℕ) : Type 0 where
+  pub copying : Copying (flagBytes locked) room₀ room i
+  pub sized : length locked ≡ 9
+
+pub flagging-none : {locked : List Bool} {room : List ℕ} → length locked ≡ 9 → 9 ≤ length room → Flagging locked room room 0
+flagging-none {locked} e h = record { copying = copied-none (let l = flags-long locked in omega arith); sized = e }
+
+pub flagging-more : {locked : List Bool} {room₀ room : List ℕ} {i x : ℕ} → Flagging locked room₀ room i → i < 9 → FlagByte (getD locked i false) x → Flagging locked room₀ (set room i x) (i + 1)
+flagging-more {locked} {room₀} {room} {i} {x} k h f =
+    let l = flags-long locked in
+    let e : x ≡ getD (flagBytes locked) i 0 = f .is ∙ sym (flag-at locked i (omega (arith, k .sized))) in
+    record { copying = rw e (copied-more (k .copying) (omega (arith, k .sized))); sized = k .sized }
+
+pub flagging-all : {locked : List Bool} {room₀ room : List ℕ} {i : ℕ} → Flagging locked room₀ room i → 9 ≤ i → PutsLocks locked room₀ room
+flagging-all {locked} k h = record { is = copied-all (k .copying) (let l = flags-long locked in omega (arith, k .sized)) .is }
+
+pub table-put : {t : Table} {room room₁ room₂ part part₂ : List ℕ} → 27 ≤ length room → length (t .present) ≡ 9 → length (t .permanent) ≡ 9 → length (t .locked) ≡ 9 →
+    Copied (t .present) room room₁ → Copied (t .permanent) (take (length room₁ - 9) (drop 9 room₁)) part → room₂ ≡ back 9 part room₁ →
+    PutsLocks (t .locked) (take (length room₂ - 18) (drop 18 room₂)) part₂ → PutsTable t room (back 18 part₂ room₂)
 unfolding tableBytes
-table-put {t} {room} {room₁} {part} l p q present permanent =
+table-put {t} {room} {room₁} {room₂} {part} {part₂} l p q m present permanent e locks =
     let first : room₁ ≡ over (t .present) room = copied-over (omega arith) present in
     let long : length room₁ ≡ length room = ap length first ∙ length-over (t .present) room (omega arith) in
     let rest : length (take (length room₁ - 9) (drop 9 room₁)) ≡ length room₁ - 9 = simp (length-take, length-drop) (omega arith) in
+    let both = behind 9 (t .present) (t .permanent) room room₁ part p (omega arith) first (copied-over (omega arith) permanent) in
+    let two : length (t .present ++ t .permanent) ≡ 18 = length-append (t .present) (t .permanent) ∙ omega arith in
     record {
-      is = behind 9 (t .present) (t .permanent) room room₁ part p (omega arith) first (copied-over (omega arith) permanent);
-      sized = record { present = p; permanent = q };
+      is =
+          behind 18 (t .present ++ t .permanent) (flagBytes (t .locked)) room room₂ part₂ two (omega (arith, flags-long (t .locked))) (e ∙ both) (locks .is)
+          ∙ rw (append-assoc (t .present) (t .permanent) (flagBytes (t .locked))) refl;
+      sized = record { present = p; permanent = q; locked = m };
     }
 
-pub device-put : {d : Device} {a b e f : ℕ} {room room₁ part : List ℕ} → 22 ≤ length room → FlagByte (d .switches .scanning) a → FlagByte (d .switches .session) b → FlagByte (d .switches .aim) e →
+pub device-put : {d : Device} {a b e f : ℕ} {room room₁ part : List ℕ} → 31 ≤ length room → FlagByte (d .switches .scanning) a → FlagByte (d .switches .session) b → FlagByte (d .switches .aim) e →
     FlagByte (d .switches .led) f →
     PutsTable (d .table) room room₁ →
-    Over (a ∷ b ∷ e ∷ f ∷ []) (take (length room₁ - 18) (drop 18 room₁)) part →
-    PutsDevice d room (back 18 part room₁)
+    Over (a ∷ b ∷ e ∷ f ∷ []) (take (length room₁ - 27) (drop 27 room₁)) part →
+    PutsDevice d room (back 27 part room₁)
 unfolding deviceBytes
 device-put {d} {a} {b} {e} {f} {room} {room₁} {part} l scanning session aim led table flags =
     record {
       is =
-          behind 18 (tableBytes (d .table)) (a ∷ b ∷ e ∷ f ∷ []) room room₁ part (table-long (d .table) (table .sized)) (omega arith) (table .is) (flags .is)
+          behind 27 (tableBytes (d .table)) (a ∷ b ∷ e ∷ f ∷ []) room room₁ part (table-long (d .table) (table .sized)) (omega arith) (table .is) (flags .is)
           ∙ rw (scanning .is, session .is, aim .is, led .is) refl;
       sized = table .sized;
     }
 
-pub reader-put : {r : Reader} {room room₁ room₂ room₃ part part₂ part₃ : List ℕ} → 83 ≤ length room → PutsHalves (r .line) room room₁ →
+pub reader-put : {r : Reader} {room room₁ room₂ room₃ part part₂ part₃ : List ℕ} → 92 ≤ length room → PutsHalves (r .line) room room₁ →
     PutsNumber (r .«last_answer») (take (length room₁ - 18) (drop 18 room₁)) part →
     room₂ ≡ back 18 part room₁ →
     PutsDevice (r .device) (take (length room₂ - 26) (drop 26 room₂)) part₂ →
     room₃ ≡ back 26 part₂ room₂ →
-    PutsSender (r .sender) (take (length room₃ - 48) (drop 48 room₃)) part₃ →
-    PutsReader r room (back 48 part₃ room₃)
+    PutsSender (r .sender) (take (length room₃ - 57) (drop 57 room₃)) part₃ →
+    PutsReader r room (back 57 part₃ room₃)
 unfolding readerBytes
 reader-put {r} {room} {room₁} {room₂} {room₃} {part} {part₂} {part₃} l line answer e device f sender =
     let h = halvesBytes (r .line) in
@@ -221,12 +243,12 @@ reader-put {r} {room} {room₁} {room₂} {room₃} {part} {part₂} {part₃} l
     let d = deviceBytes (r .device) in
     let s = senderBytes (r .sender) in
     let hn : length (h ++ n) ≡ 26 = length-append h n ∙ omega (arith, halves-long (r .line), number-long (r .«last_answer»)) in
-    let hnd : length ((h ++ n) ++ d) ≡ 48 = length-append (h ++ n) d ∙ omega (arith, device-long (r .device) (device .sized)) in
+    let hnd : length ((h ++ n) ++ d) ≡ 57 = length-append (h ++ n) d ∙ omega (arith, device-long (r .device) (device .sized)) in
     let second = behind 18 h n room room₁ part (halves-long (r .line)) (omega (arith, number-long (r .«last_answer»))) (line .is) (answer .is) in
     let third = behind 26 (h ++ n) d room room₂ part₂ hn (omega (arith, device-long (r .device) (device .sized))) (e ∙ second) (device .is) in
     record {
       is =
-          behind 48 ((h ++ n) ++ d) s room room₃ part₃ hnd (omega (arith, sender-long (r .sender))) (f ∙ third) (sender .is)
+          behind 57 ((h ++ n) ++ d) s room room₃ part₃ hnd (omega (arith, sender-long (r .sender))) (f ∙ third) (sender .is)
           ∙ simp append-assoc;
       small = record { line = line .small; «last_answer» = answer .small; table = device .sized; sender = sender .small };
     }

@@ -93,10 +93,11 @@ three-of (commanded.Acted beep.Silent) rest = refl
 three-of (commanded.Acted (beep.Row d p n)) rest = refl
 three-of commanded.Repeated rest = refl
 
-pub reader-values : {t : Commanded} {o : Outcome} {answer value : ℕ} {row : List ℕ} → ReaderRow t row → OutcomeValue o value →
-    ReaderValues t answer o (answer ∷ getD row 0 0 ∷ getD row 1 0 ∷ getD row 2 0 ∷ value ∷ [])
+pub reader-values : {t : Commanded} {o : Outcome} {changed : Bool} {answer value flag permanent : ℕ} {row : List ℕ} → ReaderRow t row → OutcomeValue o value → FlagByte changed flag → Wide flag permanent →
+    ReaderValues t answer o changed (answer ∷ getD row 0 0 ∷ getD row 1 0 ∷ getD row 2 0 ∷ value ∷ permanent ∷ [])
 unfolding readerValues
-reader-values {t} {answer = answer} {value} k v = record { is = rw (k .is, ← v .is) (ap (λ (s : List ℕ). answer ∷ s) (three-of t (value ∷ []))) }
+reader-values {t} {answer = answer} {value} {permanent = permanent} k v f w =
+    record { is = rw (k .is, ← v .is, ← f .is, ← w .is) (ap (λ (s : List ℕ). answer ∷ s) (three-of t (value ∷ permanent ∷ []))) }
 
 -- ---- what is switched on
 

@@ -20,13 +20,16 @@ use Rattle.sender.proofs.Unique as sending
 use Rattle.sender.specs.declared.Sending.{Sending}
 use Rattle.sender.specs.declared.Outcome.{Outcome}
 use Rattle.table.proofs.Unique as settings
+use Rattle.saved.proofs.Unique as saved
 use Rattle.reader.proofs.Unique as reading
 use Rattle.reader.specs.declared.Reader.{Reader}
 use Rattle.reader.specs.declared.Taken.{Taken as Commanded}
 use Rattle.reader.specs.declared.Started.{Started}
+use Rattle.reader.specs.declared.Loaded.{Loaded}
 use Rattle.motikhund.specs.Lent.{Need, atLeast, Lacking, here, there, Enough, none, more, Asks, IfNamed, KeptUnless, Kept, Made}
-use Rattle.motikhund.specs.Numbers.{checkedNumber, checkedValues, heardNumber, foundNumber, foundValues, builtNumber, hubNumber, hubValues, outcomeNumber, outcomeValue, isRefused, waitsNumber, readerNumber, readerValues}
-use Rattle.motikhund.specs.Promises.{PacketChecks, PacketBuilds, PacketAnswers, FramerIdle, FramerHears, wentOn, FrontAfter, GoesOn, HubOn, HubHears, SenderIdle, Brings, SenderStarts, SenderHears, SenderWaits, SenderHeeds, FreshReader, ReaderOn, ReaderPowersUp, ReaderStarts, ReaderTimesOut, ReaderHears, ReaderValue, ReaderSwitches}
+use Rattle.motikhund.specs.Control.{flagByte, readerIn, permanentChanged}
+use Rattle.motikhund.specs.Numbers.{checkedNumber, checkedValues, heardNumber, foundNumber, foundValues, builtNumber, hubNumber, hubValues, outcomeNumber, outcomeValue, isRefused, waitsNumber, readerNumber, readerValues, writtenNumber, writtenSize, verdictNumber, isUnread}
+use Rattle.motikhund.specs.Promises.{PacketChecks, PacketBuilds, PacketAnswers, FramerIdle, FramerHears, wentOn, FrontAfter, GoesOn, HubOn, HubHears, SenderIdle, Brings, SenderStarts, SenderHears, SenderWaits, SenderHeeds, FreshReader, ReaderOn, ReaderPowersUp, ReaderStarts, ReaderTimesOut, ReaderHears, ReaderValue, ReaderLocked, ReaderSaves, ReaderLoads, ReaderSwitches}
 
 -- ---- what is lent
 
@@ -255,7 +258,7 @@ pub reader-hear-unique : {control line answers message answer copy control₁ li
     ReaderHears control line answers message answer copy n r control₁ line₁ answers₁ answer₁ copy₁ values₁ →
     ReaderHears control line answers message answer copy n r′ control₂ line₂ answers₂ answer₂ copy₂ values₂ →
     (r ≡ r′) × (control₁ ≡ control₂) × (line₁ ≡ line₂) × (answers₁ ≡ answers₂) × (answer₁ ≡ answer₂) × (copy₁ ≡ copy₂) × (values₁ ≡ values₂)
-reader-hear-unique p q =
+reader-hear-unique {control} p q =
     asks-unique (p .asks) (q .asks) (λ a b. stays-7 a b)
     (λ n m.
     named-unique n m (λ a b. stays-7 a b)
@@ -267,7 +270,7 @@ reader-hear-unique p q =
       u .2,
       u .3,
       u .4,
-      numbered (λ (x : Commanded). readerValues (x .told) (x .answer) (x .outcome)) (u .0) (a .values-are) (b .values-are),
+      numbered (λ (x : Commanded). readerValues (x .told) (x .answer) (x .outcome) (permanentChanged (readerIn control) (x .reader))) (u .0) (a .values-are) (b .values-are),
     )))
 
 pub reader-value-unique : {control : List ℕ} {number r r′ value₁ value₂ : ℕ} → ReaderValue control number r value₁ → ReaderValue control number r′ value₂ →
@@ -282,3 +285,29 @@ reader-switches-unique p q =
     asks-unique (p .asks) (q .asks)
     (λ a b. (same (a .0) (b .0), same (a .1) (b .1)))
     (λ a b. (same (a .0) (b .0), same (a .1) (b .1)))
+
+pub reader-locked-unique : {control : List ℕ} {number r r′ value₁ value₂ : ℕ} → ReaderLocked control number r value₁ → ReaderLocked control number r′ value₂ →
+    (r ≡ r′) × (value₁ ≡ value₂)
+reader-locked-unique p q =
+    asks-unique (p .asks) (q .asks)
+    (λ a b. (same (a .0) (b .0), same (a .1) (b .1)))
+    (λ a b. (same (a .told) (b .told), numbered flagByte (settings.locked-unique (a .locked) (b .locked)) (a .value-is) (b .value-is)))
+
+pub reader-save-unique : {control room room₁ room₂ : List ℕ} {r r′ size₁ size₂ : ℕ} → ReaderSaves control room r room₁ size₁ → ReaderSaves control room r′ room₂ size₂ →
+    (r ≡ r′) × (room₁ ≡ room₂) × (size₁ ≡ size₂)
+reader-save-unique p q =
+    asks-unique (p .asks) (q .asks)
+    (λ a b. (same (a .0) (b .0), same (a .1) (b .1), same (a .2) (b .2)))
+    (λ a b.
+    let u = saved.save-unique (a .saves) (b .saves) in
+    (numbered writtenNumber (u .0) (a .told) (b .told), u .1, numbered writtenSize (u .0) (a .value) (b .value)))
+
+pub reader-load-unique : {control form control₁ control₂ : List ℕ} {r r′ : ℕ} → ReaderLoads control form r control₁ → ReaderLoads control form r′ control₂ → (r ≡ r′) × (control₁ ≡ control₂)
+reader-load-unique p q =
+    asks-unique (p .asks) (q .asks)
+    (λ a b. (same (a .0) (b .0), same (a .1) (b .1)))
+    (λ a b.
+    let u = reading.load-unique (a .loads) (b .loads) in (
+      numbered (λ (x : Loaded). verdictNumber (x .verdict) 0) u (a .told) (b .told),
+      same-start (λ (x : Loaded). isUnread (x .verdict)) (λ (x : Loaded). x .reader) u (a .kept) (b .kept),
+    ))

@@ -1,12 +1,12 @@
 -- Control values as bytes. A number takes eight bytes, low byte first; a flag one, 1 where it holds and 0 where not. Any other byte
 -- reads as a flag that does not hold, so any bytes are some control value.
 use Prim.Native.Nat.{ℕ, _+_, _*_, _/_, _%_, _<_}
-use mathlib.Core.Bool.{Bool, true, false}
-use mathlib.Core.List.{List, [], _∷_, _++_}
+use mathlib.Core.Bool.{Bool, true, false, not}
+use mathlib.Core.List.{List, [], _∷_, _++_, map}
 use mathlib.Core.Path.{_≡_}
 use lib.Dec.{eqb}
 use lib.ListN.{length, getD, take, drop}
-use Rattle.words.specs.Lists.{over}
+use Rattle.words.specs.Lists.{over, sameBytes}
 use Rattle.framer.specs.declared.Framer.{Framer}
 use Rattle.framer.specs.declared.Halves.{Halves}
 use Rattle.hub.specs.declared.Gathering.{Gathering}
@@ -45,7 +45,7 @@ abbrev pub senderControlSize : ℕ
 senderControlSize = 3 + 4 * numberSize
 
 abbrev pub tableSize : ℕ
-tableSize = 2 * parameterCount
+tableSize = 3 * parameterCount
 
 abbrev pub deviceSize : ℕ
 deviceSize = tableSize + 4
@@ -127,17 +127,28 @@ senderBytes s =
     ∷ flagByte (s .failed)
     ∷ ((numberBytes (s .length) ++ numberBytes (s .at)) ++ (numberBytes (s .resends) ++ numberBytes (s .copies)))
 
--- ---- the reader: 0 to 17 its line, 18 to 25 how long the last answer was, 26 to 34 present values, 35 to 43 permanent values, 44 scanning, 45 session, 46 aim,
--- 47 LED, 48 to 82 its sender
+-- ---- the reader: 0 to 17 its line, 18 to 25 how long the last answer was, 26 to 34 present values, 35 to 43 permanent values, 44 to 52 which are locked,
+-- 53 scanning, 54 session, 55 aim, 56 LED, 57 to 91 its sender
+
+abbrev pub flagsIn : List ℕ → List Bool
+flagsIn s = map (λ b. eqb b 1) s
+
+abbrev pub flagBytes : List Bool → List ℕ
+flagBytes bs = map flagByte bs
 
 unfoldable pub tableIn : List ℕ → Table
-tableIn s = record { present = take parameterCount s; permanent = take parameterCount (drop parameterCount s) }
+tableIn s =
+    record {
+      present = take parameterCount s;
+      permanent = take parameterCount (drop parameterCount s);
+      locked = flagsIn (take parameterCount (drop (2 * parameterCount) s));
+    }
 
 unfoldable pub tableBytes : Table → List ℕ
-tableBytes t = t .present ++ t .permanent
+tableBytes t = t .present ++ (t .permanent ++ flagBytes (t .locked))
 
 unfoldable pub deviceIn : List ℕ → Device
-deviceIn s = record { table = tableIn s; switches = record { scanning = flagIn s 18; session = flagIn s 19; aim = flagIn s 20; led = flagIn s 21 } }
+deviceIn s = record { table = tableIn s; switches = record { scanning = flagIn s 27; session = flagIn s 28; aim = flagIn s 29; led = flagIn s 30 } }
 
 -- What is switched on, as numbers: scanning, session, aim, LED.
 abbrev pub switchValues : Device → List ℕ
@@ -147,7 +158,7 @@ unfoldable pub deviceBytes : Device → List ℕ
 deviceBytes d = tableBytes (d .table) ++ switchValues d
 
 unfoldable pub readerIn : List ℕ → Reader
-readerIn s = record { line = halvesIn s; «last_answer» = numberIn (drop 18 s); device = deviceIn (drop 26 s); sender = senderIn (drop 48 s) }
+readerIn s = record { line = halvesIn s; «last_answer» = numberIn (drop 18 s); device = deviceIn (drop 26 s); sender = senderIn (drop 57 s) }
 
 unfoldable pub readerBytes : Reader → List ℕ
 readerBytes r = halvesBytes (r .line) ++ (numberBytes (r .«last_answer») ++ (deviceBytes (r .device) ++ senderBytes (r .sender)))
@@ -171,6 +182,7 @@ pub record SmallSender (s : Sender) : Type 0 where
 pub record SizedTable (t : Table) : Type 0 where
   pub present : length (t .present) ≡ parameterCount
   pub permanent : length (t .permanent) ≡ parameterCount
+  pub locked : length (t .locked) ≡ parameterCount
 
 pub record SmallReader (r : Reader) : Type 0 where
   pub line : SmallHalves (r .line)
@@ -243,6 +255,12 @@ pub record PutsSender (s : Sender) (room room′ : List ℕ) : Type 0 where
 pub record ValuesIn (s r : List ℕ) : Type 0 where
   pub is : r ≡ take parameterCount s
 
+pub record LocksIn (s : List ℕ) (r : List Bool) : Type 0 where
+  pub is : r ≡ flagsIn (take parameterCount s)
+
+pub record PutsLocks (locked : List Bool) (room room′ : List ℕ) : Type 0 where
+  pub is : room′ ≡ over (flagBytes locked) room
+
 pub record TableIn (s : List ℕ) (r : Table) : Type 0 where
   pub is : r ≡ tableIn s
 
@@ -266,3 +284,10 @@ pub record ReaderIn (s : List ℕ) (r : Reader) : Type 0 where
 pub record PutsReader (r : Reader) (room room′ : List ℕ) : Type 0 where
   pub is : room′ ≡ over (readerBytes r) room
   pub small : SmallReader r
+
+-- Whether an event changed a permanent value: the control bytes before it, and the reader after it.
+unfoldable pub permanentChanged : Reader → Reader → Bool
+permanentChanged before after = not (sameBytes (before .device .table .permanent) (after .device .table .permanent))
+
+pub record PermanentChanged (s : List ℕ) (after : Reader) (r : Bool) : Type 0 where
+  pub is : r ≡ permanentChanged (readerIn s) after

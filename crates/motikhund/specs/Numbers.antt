@@ -25,10 +25,15 @@ use Rattle.commands.specs.declared.Beep.{Beep}
 use Rattle.commands.specs.declared.Beep.the-variants as beep
 use Rattle.reader.specs.declared.Told.{Told as Commanded}
 use Rattle.reader.specs.declared.Told.the-variants as commanded
+use Rattle.table.specs.declared.Verdict.{Verdict}
+use Rattle.table.specs.declared.Verdict.the-variants as verdict
+use Rattle.table.specs.declared.Written.{Written}
+use Rattle.table.specs.declared.Written.the-variants as written
 use Rattle.sender.specs.declared.Heard.{Heard}
 use Rattle.sender.specs.declared.Heard.the-variants as heard
 use Rattle.sender.specs.declared.Outcome.{Outcome}
 use Rattle.sender.specs.declared.Outcome.the-variants as outcome
+use Rattle.motikhund.specs.Control.{flagByte}
 
 -- ---- what goes in
 
@@ -131,8 +136,8 @@ waitsNumber true = 123
 waitsNumber false = 0
 
 -- The reader: how many bytes stand in the answer room; the row of §13 that is reported, duration, pitch and number of beeps, of
--- which there are none where nothing sounds; then the value of what its sender brought. One number tells of both: an event that brings a
--- command is none for the sender.
+-- which there are none where nothing sounds; then the value of what its sender brought; then whether a permanent value changed. One number
+-- tells of both: an event that brings a command is none for the sender.
 abbrev pub readerNumber : Commanded → Outcome → ℕ
 readerNumber commanded.Nothing sent = outcomeNumber sent
 readerNumber (commanded.Refused r) sent = numberOf r
@@ -149,8 +154,25 @@ readerRow (commanded.Refused r) = 0 ∷ 0 ∷ 0 ∷ []
 readerRow (commanded.Acted beep) = rowOf beep
 readerRow commanded.Repeated = 0 ∷ 0 ∷ 0 ∷ []
 
-unfoldable pub readerValues : Commanded → ℕ → Outcome → List ℕ
-readerValues told answer sent = answer ∷ (readerRow told ++ (outcomeValue sent ∷ []))
+unfoldable pub readerValues : Commanded → ℕ → Outcome → Bool → List ℕ
+readerValues told answer sent changed = answer ∷ (readerRow told ++ (outcomeValue sent ∷ flagByte changed ∷ []))
+
+-- A saved set that was written: how many bytes it has. One that was read, or not: what is told where it was taken, or its refusal.
+abbrev pub writtenNumber : Written → ℕ
+writtenNumber (written.Bytes size) = 101
+writtenNumber (written.Refused r) = numberOf r
+
+abbrev pub writtenSize : Written → ℕ
+writtenSize (written.Bytes size) = size
+writtenSize (written.Refused r) = 0
+
+abbrev pub verdictNumber : Verdict → ℕ → ℕ
+verdictNumber verdict.Done taken = taken
+verdictNumber (verdict.Refused r) taken = numberOf r
+
+abbrev pub isUnread : Verdict → Bool
+isUnread verdict.Done = false
+isUnread (verdict.Refused r) = true
 
 -- ---- promises
 
@@ -214,5 +236,17 @@ pub record RowOf (b : Beep) (row : List ℕ) : Type 0 where
 pub record ReaderRow (t : Commanded) (row : List ℕ) : Type 0 where
   pub is : row ≡ readerRow t
 
-pub record ReaderValues (t : Commanded) (answer : ℕ) (o : Outcome) (values : List ℕ) : Type 0 where
-  pub is : values ≡ readerValues t answer o
+pub record ReaderValues (t : Commanded) (answer : ℕ) (o : Outcome) (changed : Bool) (values : List ℕ) : Type 0 where
+  pub is : values ≡ readerValues t answer o changed
+
+pub record WrittenNumber (w : Written) (r : ℕ) : Type 0 where
+  pub is : r ≡ writtenNumber w
+
+pub record WrittenSize (w : Written) (r : ℕ) : Type 0 where
+  pub is : r ≡ writtenSize w
+
+pub record VerdictNumber (v : Verdict) (taken r : ℕ) : Type 0 where
+  pub is : r ≡ verdictNumber v taken
+
+pub record Unread (v : Verdict) (r : Bool) : Type 0 where
+  pub is : r ≡ isUnread v

@@ -1,7 +1,7 @@
 -- What each exported call promises. A control value under its size, or a room under what the call asks for, is number 13 with
 -- nothing changed; then a number that names no event or reply does nothing. Else it is the library's call on what the bytes read as, with
 -- that call's own promise; what it told stands in numbers, and the control bytes afterwards are those of the control value that it left, or
--- as they were where a start was refused. Only the short way writes less of them.
+-- as they were where a start or a saved set was refused. Only the short way writes less of them.
 use Prim.Native.Nat.{ℕ}
 use mathlib.Core.Bool.{Bool, true, false}
 use mathlib.Core.List.{List, [], _∷_}
@@ -9,6 +9,7 @@ use mathlib.Core.Path.{_≡_}
 use Rattle.packet.specs.Opcodes.{host}
 use Rattle.packet.specs.Packet.{sizeOf}
 use Rattle.packet.specs.Promises as packet
+use Rattle.packet.specs.Refusals.{numberOf}
 use Rattle.packet.specs.Sizes.{packetSize, answerSize, messageSize}
 use Rattle.packet.specs.declared.Checked.{Checked}
 use Rattle.packet.specs.declared.Built.{Built}
@@ -24,16 +25,21 @@ use Rattle.sender.specs.Promises as sending
 use Rattle.sender.specs.declared.Heard.{Heard}
 use Rattle.sender.specs.declared.Sending.{Sending}
 use Rattle.sender.specs.declared.Outcome.{Outcome}
+use Rattle.table.specs.Table.{Outcome as Settled, done, refused as unsettled}
 use Rattle.table.specs.Promises as settings
 use Rattle.table.specs.declared.Table.{Table}
+use Rattle.table.specs.declared.Written.{Written}
+use Rattle.saved.specs.Saved.{edition1, readForm}
+use Rattle.saved.specs.Promises as saved
 use Rattle.reader.specs.Reader.{readerAnswerSize}
 use Rattle.reader.specs.Promises as reading
 use Rattle.reader.specs.declared.Reader.{Reader}
 use Rattle.reader.specs.declared.Taken.{Taken as Commanded}
 use Rattle.reader.specs.declared.Started.{Started}
+use Rattle.reader.specs.declared.Loaded.{Loaded}
 use Rattle.motikhund.specs.Lent.{atLeast, Asks, IfNamed, KeptUnless, Kept, Made}
-use Rattle.motikhund.specs.Control.{framerControlSize, hubControlSize, senderControlSize, readerControlSize, numberIn, numberBytes, flagIn, framerIn, framerBytes, hubIn, hubBytes, senderIn, senderBytes, readerIn, readerBytes, switchValues}
-use Rattle.motikhund.specs.Numbers.{isEvent, eventOf, heardOf, heardNumber, isReply, replyOf, noHead, checkedNumber, checkedValues, foundNumber, foundValues, builtNumber, hubNumber, hubValues, outcomeNumber, outcomeValue, isRefused, waitsNumber, readerNumber, readerValues}
+use Rattle.motikhund.specs.Control.{framerControlSize, hubControlSize, senderControlSize, readerControlSize, numberIn, numberBytes, flagIn, flagByte, framerIn, framerBytes, hubIn, hubBytes, senderIn, senderBytes, readerIn, readerBytes, switchValues, permanentChanged}
+use Rattle.motikhund.specs.Numbers.{isEvent, eventOf, heardOf, heardNumber, isReply, replyOf, noHead, checkedNumber, checkedValues, foundNumber, foundValues, builtNumber, hubNumber, hubValues, outcomeNumber, outcomeValue, isRefused, waitsNumber, readerNumber, readerValues, writtenNumber, writtenSize, verdictNumber, isUnread}
 
 -- ---- the packet: each call asks for its own room
 
@@ -216,12 +222,12 @@ pub record ReaderTakes (control line answers message answer copy : List ℕ) (ev
   pub taken : Commanded
   pub hears : reading.Hears (readerIn control) line answers message answer copy (eventOf event) taken line′ answers′ answer′ copy′
   pub told : r ≡ readerNumber (taken .told) (taken .outcome)
-  pub values-are : values ≡ readerValues (taken .told) (taken .answer) (taken .outcome)
+  pub values-are : values ≡ readerValues (taken .told) (taken .answer) (taken .outcome) (permanentChanged (readerIn control) (taken .reader))
   pub kept : Kept readerIn readerBytes (taken .reader) control control′
 
 abbrev pub ReaderStays : ℕ → List ℕ → List ℕ → List ℕ → List ℕ → List ℕ → ℕ → List ℕ → List ℕ → List ℕ → List ℕ → List ℕ → List ℕ → Type 0
 ReaderStays n control line answers answer copy r control′ line′ answers′ answer′ copy′ values =
-    (r ≡ n) × (control′ ≡ control) × (line′ ≡ line) × (answers′ ≡ answers) × (answer′ ≡ answer) × (copy′ ≡ copy) × (values ≡ 0 ∷ 0 ∷ 0 ∷ 0 ∷ 0 ∷ [])
+    (r ≡ n) × (control′ ≡ control) × (line′ ≡ line) × (answers′ ≡ answers) × (answer′ ≡ answer) × (copy′ ≡ copy) × (values ≡ 0 ∷ 0 ∷ 0 ∷ 0 ∷ 0 ∷ 0 ∷ [])
 
 pub record ReaderHears (control line answers message answer copy : List ℕ) (event r : ℕ) (control′ line′ answers′ answer′ copy′ values : List ℕ) : Type 0 where
   pub asks :
@@ -237,6 +243,40 @@ pub record ReaderShows (control : List ℕ) (number r value : ℕ) : Type 0 wher
 
 pub record ReaderValue (control : List ℕ) (number r value : ℕ) : Type 0 where
   pub asks : Asks (atLeast readerControlSize control ∷ []) ((r ≡ 13) × (value ≡ 0)) (ReaderShows control number r value)
+
+-- Whether a parameter is locked.
+pub record ReaderHolds (control : List ℕ) (number r value : ℕ) : Type 0 where
+  pub held : Bool
+  pub locked : settings.Locked (readerIn control .device .table) number held
+  pub value-is : value ≡ flagByte held
+  pub told : r ≡ 0
+
+pub record ReaderLocked (control : List ℕ) (number r value : ℕ) : Type 0 where
+  pub asks : Asks (atLeast readerControlSize control ∷ []) ((r ≡ 13) × (value ≡ 0)) (ReaderHolds control number r value)
+
+-- The saved set, written to a room.
+pub record ReaderWrites (control room : List ℕ) (r : ℕ) (room′ : List ℕ) (size : ℕ) : Type 0 where
+  pub made : Written
+  pub saves : saved.Saves (readerIn control .device .table) room made room′
+  pub told : r ≡ writtenNumber made
+  pub value : size ≡ writtenSize made
+
+pub record ReaderSaves (control room : List ℕ) (r : ℕ) (room′ : List ℕ) (size : ℕ) : Type 0 where
+  pub asks : Asks (atLeast readerControlSize control ∷ []) (Unwritten 13 room r room′ size) (ReaderWrites control room r room′ size)
+
+-- A saved set, read into the reader. 12 comes before 13: a form that is none is told as that, also where the control value is too small.
+pub record ReaderReads (control form : List ℕ) (r : ℕ) (control′ : List ℕ) : Type 0 where
+  pub loaded : Loaded
+  pub loads : reading.Loads (readerIn control) form loaded
+  pub told : r ≡ verdictNumber (loaded .verdict) 0
+  pub kept : KeptUnless (isUnread (loaded .verdict)) readerIn readerBytes (loaded .reader) control control′
+
+abbrev pub unreadNumber : Settled → ℕ
+unreadNumber (done v) = 13
+unreadNumber (unsettled x) = numberOf x
+
+pub record ReaderLoads (control form : List ℕ) (r : ℕ) (control′ : List ℕ) : Type 0 where
+  pub asks : Asks (atLeast readerControlSize control ∷ []) ((r ≡ unreadNumber (readForm edition1 form)) × (control′ ≡ control)) (ReaderReads control form r control′)
 
 -- What is switched on.
 pub record ReaderSwitches (control : List ℕ) (r : ℕ) (values : List ℕ) : Type 0 where

@@ -1,5 +1,5 @@
 -- Demand 1 at every exported call: what a refused one leaves of all that it was lent. The theorems (proofs/Refusing.antt) start from the
--- call's contract and a told number that is a refusal's: 1 to 11, or 13.
+-- call's contract and a told number that is a refusal's: 1 to 13.
 use Prim.Native.Nat.{ℕ}
 use mathlib.Core.List.{List, [], _∷_}
 use mathlib.Core.Logic.{_⊎_}
@@ -39,6 +39,11 @@ pub record StartRefuses (r : ℕ) (buffers : List Lent) (values : List ℕ) : Ty
   pub number : (r ≡ 11) ⊎ (r ≡ 13)
   pub untouched : Untouched buffers values
 
+-- A saved set that is read: 12 or 13.
+pub record LoadRefuses (r : ℕ) (buffers : List Lent) (values : List ℕ) : Type 0 where
+  pub number : (r ≡ 12) ⊎ (r ≡ 13)
+  pub untouched : Untouched buffers values
+
 -- A call that takes an event: by 13 nothing has changed; by any other number only what `Otherwise` says.
 pub record EventRefuses (r : ℕ) (buffers : List Lent) (values : List ℕ) (Otherwise : Type 0) : Type 0 where
   pub by-13 : r ≡ 13 → Untouched buffers values
@@ -62,4 +67,4 @@ pub record ReaderTaken (x : Refusal) (event : ℕ) (control control′ line line
   pub taken : Commanded
   pub kept : Kept readerIn readerBytes (taken .reader) control control′
   pub refuses : ReaderRefuses x (eventOf event) (readerIn control) taken line line′ answers answers′ message answer answer′ copy copy′
-  pub values-are : values ≡ taken .answer ∷ 0 ∷ 0 ∷ 0 ∷ 0 ∷ []
+  pub values-are : values ≡ taken .answer ∷ 0 ∷ 0 ∷ 0 ∷ 0 ∷ 0 ∷ []

@@ -14,7 +14,7 @@ ghost use mathlib.Core.List.{[], _∷_};
 ghost use lib.ListN.{length};
 ghost use Rattle.words.specs.Lists.{Over};
 ghost use Rattle.table.specs.Rows.{parameterCount};
-ghost use Rattle.motikhund.specs.Control.{halfSize, numberSize, framerControlSize, halvesSize, gatheringSize, hubControlSize, senderControlSize, tableSize, deviceSize, readerControlSize, HalfIn, NumberIn, PutsHalf, PutsNumber, PutsTwo, FlagByte, PutsFlag, FramerIn, PutsFramer, HalvesIn, PutsHalves, GatheringIn, PutsGathering, HubIn, PutsHub, SenderIn, PutsSender, ValuesIn, TableIn, PutsTable, DeviceIn, PutsDevice, Switches, ReaderIn, PutsReader};
+ghost use Rattle.motikhund.specs.Control.{halfSize, numberSize, framerControlSize, halvesSize, gatheringSize, hubControlSize, senderControlSize, tableSize, deviceSize, readerControlSize, HalfIn, NumberIn, PutsHalf, PutsNumber, PutsTwo, FlagByte, PutsFlag, FramerIn, PutsFramer, HalvesIn, PutsHalves, GatheringIn, PutsGathering, HubIn, PutsHub, SenderIn, PutsSender, ValuesIn, LocksIn, PutsLocks, TableIn, PutsTable, DeviceIn, PutsDevice, Switches, ReaderIn, PutsReader, PermanentChanged};
 
 // The sizes, part by part.
 const NUMBER_SIZE: usize = 8;
@@ -32,7 +32,7 @@ pub const HUB_CONTROL_SIZE: usize = HALVES_SIZE + GATHERING_SIZE;
 
 pub const SENDER_CONTROL_SIZE: usize = 3 + 4 * NUMBER_SIZE;
 
-const TABLE_SIZE: usize = 2 * PARAMETER_COUNT;
+const TABLE_SIZE: usize = 3 * PARAMETER_COUNT;
 
 const DEVICE_SIZE: usize = TABLE_SIZE + 4;
 
@@ -86,7 +86,7 @@ fn put_two(a: usize, b: usize, room: &mut [u8])
     put_number(b, &mut room[8..]);
 }
 
-fn flag(b: bool) -> u8
+pub(crate) fn flag(b: bool) -> u8
     ensures { λ r. ⌜ FlagByte b r ⌝ }
 {
     if b {
@@ -244,13 +244,46 @@ fn values(s: &[u8]) -> [u8; PARAMETER_COUNT]
     [s[0], s[1], s[2], s[3], s[4], s[5], s[6], s[7], s[8]]
 }
 
+fn locks(s: &[u8]) -> [bool; PARAMETER_COUNT]
+    requires { ⌜ parameterCount ≤ length (now s) ⌝ }
+    ensures { λ r. ⌜ LocksIn (now (s .entry)) r ⌝ }
+{
+    [
+        s[0] == 1,
+        s[1] == 1,
+        s[2] == 1,
+        s[3] == 1,
+        s[4] == 1,
+        s[5] == 1,
+        s[6] == 1,
+        s[7] == 1,
+        s[8] == 1,
+    ]
+}
+
+fn put_locks(locked: [bool; PARAMETER_COUNT], room: &mut [u8])
+    requires { ⌜ parameterCount ≤ length (now room) ⌝ }
+    ensures { λ _. ⌜ PutsLocks locked (now (room .entry)) (now (room .exit)) ⌝ }
+{
+    let mut i = 0;
+    while i < PARAMETER_COUNT {
+        room[i] = flag(locked[i]);
+        i += 1;
+    }
+}
+
 fn table(s: &[u8]) -> Table
     requires { ⌜ tableSize ≤ length (now s) ⌝ }
     ensures { λ r. ⌜ TableIn (now (s .entry)) r ⌝ }
 {
     let present = values(s);
     let permanent = values(&s[9..]);
-    Table { present, permanent }
+    let locked = locks(&s[18..]);
+    Table {
+        present,
+        permanent,
+        locked,
+    }
 }
 
 fn put_table(table: Table, room: &mut [u8])
@@ -259,8 +292,10 @@ fn put_table(table: Table, room: &mut [u8])
 {
     let present = table.present;
     let permanent = table.permanent;
+    let locked = table.locked;
     words::copy(&present, room);
     words::copy(&permanent, &mut room[9..]);
+    put_locks(locked, &mut room[18..]);
 }
 
 fn device(s: &[u8]) -> Device
@@ -269,10 +304,10 @@ fn device(s: &[u8]) -> Device
 {
     let table = table(s);
     let switches = commands::Switches {
-        scanning: s[18] == 1,
-        session: s[19] == 1,
-        aim: s[20] == 1,
-        led: s[21] == 1,
+        scanning: s[27] == 1,
+        session: s[28] == 1,
+        aim: s[29] == 1,
+        led: s[30] == 1,
     };
     Device { table, switches }
 }
@@ -288,7 +323,7 @@ fn put_device(device: Device, room: &mut [u8])
     let aim = flag(switches.aim);
     let led = flag(switches.led);
     put_table(table, room);
-    put_four(scanning, session, aim, led, &mut room[18..]);
+    put_four(scanning, session, aim, led, &mut room[27..]);
 }
 
 // What is switched on: scanning, session, aim, LED.
@@ -310,7 +345,7 @@ pub(crate) fn reader(s: &[u8]) -> Reader
     let line = halves(s);
     let last_answer = number(&s[18..]);
     let device = device(&s[26..]);
-    let sender = sender(&s[48..]);
+    let sender = sender(&s[57..]);
     Reader {
         line,
         last_answer,
@@ -329,5 +364,24 @@ pub(crate) fn put_reader(reader: Reader, room: &mut [u8])
     put_halves(line, room);
     put_number(reader.last_answer, &mut room[18..]);
     put_device(device, &mut room[26..]);
-    put_sender(sender, &mut room[48..]);
+    put_sender(sender, &mut room[57..]);
+}
+
+// Whether a reader's permanent values differ from those that stand in control bytes.
+pub(crate) fn permanent_changed(s: &[u8], after: Reader) -> bool
+    requires { ⌜ readerControlSize ≤ length (now s) ⌝ }
+    ensures { λ r. ⌜ PermanentChanged (now (s .entry)) after r ⌝ }
+{
+    let device = after.device;
+    let table = device.table;
+    let permanent = table.permanent;
+    let mut i = 0;
+    while i < PARAMETER_COUNT {
+        if s[35 + i] == permanent[i] {
+            i += 1;
+        } else {
+            return true;
+        }
+    }
+    false
 }

@@ -9,7 +9,7 @@ use control::GOING_SIZE;
 use control::HUB_CONTROL_SIZE;
 use control::READER_CONTROL_SIZE;
 use control::SENDER_CONTROL_SIZE;
-ghost use Rattle.motikhund.specs.Promises.{PacketChecks, PacketBuilds, PacketAnswers, FramerIdle, FramerHears, GoesOn, HubOn, HubHears, SenderIdle, SenderStarts, SenderHears, SenderWaits, SenderHeeds, ReaderOn, ReaderPowersUp, ReaderStarts, ReaderTimesOut, ReaderHears, ReaderValue, ReaderSwitches};
+ghost use Rattle.motikhund.specs.Promises.{PacketChecks, PacketBuilds, PacketAnswers, FramerIdle, FramerHears, GoesOn, HubOn, HubHears, SenderIdle, SenderStarts, SenderHears, SenderWaits, SenderHeeds, ReaderOn, ReaderPowersUp, ReaderStarts, ReaderTimesOut, ReaderHears, ReaderValue, ReaderLocked, ReaderSaves, ReaderLoads, ReaderSwitches};
 
 // Lent room too small.
 const ROOM: u32 = 13;
@@ -382,7 +382,7 @@ pub extern "C" fn mk_reader_time_out(
 }
 
 // One event: 130 a command was acted on, 111 a repeat, what the sender brought (120, 121, 122), a refusal, or 0. The values are the
-// answer's size, duration, pitch and number of beeps, and the value of what the sender brought.
+// answer's size, duration, pitch and number of beeps, the value of what the sender brought, and 1 where a permanent value changed.
 #[no_mangle]
 pub extern "C" fn mk_reader_hear(
     control: &mut [u8],
@@ -392,24 +392,24 @@ pub extern "C" fn mk_reader_hear(
     answer: &mut [u8],
     copy: &mut [u8],
     event: u32,
-    values: &mut [usize; 5],
+    values: &mut [usize; 6],
 ) -> u32
     ensures { λ r. ⌜ ReaderHears (now (control .entry)) (now (line .entry)) (now (answers .entry)) (now (message .entry)) (now (answer .entry)) (now (copy .entry)) event r (now (control .exit)) (now (line .exit)) (now (answers .exit)) (now (answer .exit)) (now (copy .exit)) (now (values .exit)) ⌝ }
 {
     if control.len() < READER_CONTROL_SIZE {
-        *values = [0; 5];
+        *values = [0; 6];
         return ROOM;
     }
     if answer.len() < reader::READER_ANSWER_SIZE {
-        *values = [0; 5];
+        *values = [0; 6];
         return ROOM;
     }
     if copy.len() < packet::PACKET_SIZE {
-        *values = [0; 5];
+        *values = [0; 6];
         return ROOM;
     }
     if LAST_EVENT < event {
-        *values = [0; 5];
+        *values = [0; 6];
         return 0;
     }
     let before = control::reader(control);
@@ -425,8 +425,9 @@ pub extern "C" fn mk_reader_hear(
     let next = taken.reader;
     let told = taken.told;
     let outcome = taken.outcome;
+    let changed = control::permanent_changed(control, next);
     control::put_reader(next, control);
-    numbers::reader_values(told, taken.answer, outcome, values);
+    numbers::reader_values(told, taken.answer, outcome, changed, values);
     numbers::reader(told, outcome)
 }
 
@@ -443,6 +444,58 @@ pub extern "C" fn mk_reader_value(control: &[u8], number: u8, value: &mut usize)
     let device = before.device;
     let table = device.table;
     *value = words::wide(table::value(table, number));
+    0
+}
+
+// Whether a parameter is locked: 1 or 0; 0 where it is not supported.
+#[no_mangle]
+pub extern "C" fn mk_reader_locked(control: &[u8], number: u8, value: &mut usize) -> u32
+    ensures { λ r. ⌜ ReaderLocked (now (control .entry)) number r (now (value .exit)) ⌝ }
+{
+    if control.len() < READER_CONTROL_SIZE {
+        *value = 0;
+        return ROOM;
+    }
+    let before = control::reader(control);
+    let device = before.device;
+    let table = device.table;
+    *value = words::wide(control::flag(table::locked(table, number)));
+    0
+}
+
+// Writes the saved set, permanent values and locks: 101 and how many bytes stand in the room, or a refusal.
+#[no_mangle]
+pub extern "C" fn mk_reader_save(control: &[u8], room: &mut [u8], size: &mut usize) -> u32
+    ensures { λ r. ⌜ ReaderSaves (now (control .entry)) (now (room .entry)) r (now (room .exit)) (now (size .exit)) ⌝ }
+{
+    if control.len() < READER_CONTROL_SIZE {
+        *size = 0;
+        return ROOM;
+    }
+    let before = control::reader(control);
+    let device = before.device;
+    let written = saved::save(device.table, room);
+    *size = numbers::written_size(written);
+    numbers::written(written)
+}
+
+// Reads a saved set: 0 where it was taken. 12 for any bytes that are no form, then 13, and every control byte stays.
+#[no_mangle]
+pub extern "C" fn mk_reader_load(control: &mut [u8], form: &[u8]) -> u32
+    ensures { λ r. ⌜ ReaderLoads (now (control .entry)) (now (form .entry)) r (now (control .exit)) ⌝ }
+{
+    if control.len() < READER_CONTROL_SIZE {
+        let unread = saved::load(table::defaults(), form);
+        let verdict = unread.verdict;
+        return numbers::verdict(verdict, ROOM);
+    }
+    let loaded = reader::load(control::reader(control), form);
+    let next = loaded.reader;
+    let verdict = loaded.verdict;
+    if numbers::unread(verdict) {
+        return numbers::verdict(verdict, 0);
+    }
+    control::put_reader(next, control);
     0
 }
 

@@ -1,4 +1,5 @@
 // Events and answers as numbers: specs/Numbers.antt has a line for each case of each enum.
+use crate::control;
 use commands::Beep;
 use framer::Event;
 use framer::Found;
@@ -9,7 +10,9 @@ use packet::Refusal;
 use packet::Reply;
 use sender::Heard;
 use sender::Outcome;
-ghost use Rattle.motikhund.specs.Numbers.{EventOf, HeardOf, HeardNumber, ReplyOf, RefusalNumber, HeadValues, CheckedNumber, CheckedValues, FoundNumber, FoundValues, BuiltNumber, HubNumber, HubValues, OutcomeNumber, OutcomeValue, OutcomeRefused, ReaderNumber, RowOf, ReaderRow, ReaderValues};
+use table::Verdict;
+use table::Written;
+ghost use Rattle.motikhund.specs.Numbers.{EventOf, HeardOf, HeardNumber, ReplyOf, RefusalNumber, HeadValues, CheckedNumber, CheckedValues, FoundNumber, FoundValues, BuiltNumber, HubNumber, HubValues, OutcomeNumber, OutcomeValue, OutcomeRefused, ReaderNumber, RowOf, ReaderRow, ReaderValues, WrittenNumber, WrittenSize, VerdictNumber, Unread};
 
 // ---- what goes in
 
@@ -231,14 +234,52 @@ pub(crate) fn reader_values(
     told: reader::Told,
     answer: usize,
     sent: Outcome,
-    values: &mut [usize; 5],
+    changed: bool,
+    values: &mut [usize; 6],
 )
-    ensures { λ _. ⌜ ReaderValues told answer sent (now (values .exit)) ⌝ }
+    ensures { λ _. ⌜ ReaderValues told answer sent changed (now (values .exit)) ⌝ }
 {
     let row = reader_row(told);
     let duration = row[0];
     let pitch = row[1];
     let count = row[2];
     let value = outcome_value(sent);
-    *values = [answer, duration, pitch, count, value];
+    let permanent = words::wide(control::flag(changed));
+    *values = [answer, duration, pitch, count, value, permanent];
+}
+
+pub(crate) fn written(written: Written) -> u32
+    ensures { λ r. ⌜ WrittenNumber written r ⌝ }
+{
+    match written {
+        Written::Bytes(_) => 101,
+        Written::Refused(why) => refusal(why),
+    }
+}
+
+pub(crate) fn written_size(written: Written) -> usize
+    ensures { λ r. ⌜ WrittenSize written r ⌝ }
+{
+    match written {
+        Written::Bytes(size) => size,
+        Written::Refused(_) => 0,
+    }
+}
+
+pub(crate) fn verdict(verdict: Verdict, taken: u32) -> u32
+    ensures { λ r. ⌜ VerdictNumber verdict taken r ⌝ }
+{
+    match verdict {
+        Verdict::Done => taken,
+        Verdict::Refused(why) => refusal(why),
+    }
+}
+
+pub(crate) fn unread(verdict: Verdict) -> bool
+    ensures { λ r. ⌜ Unread verdict r ⌝ }
+{
+    match verdict {
+        Verdict::Done => false,
+        Verdict::Refused(_) => true,
+    }
 }

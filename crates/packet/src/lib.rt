@@ -77,6 +77,8 @@ pub enum Refusal {
     Barred,
     // sender: message too long, or one still out
     Start,
+    // a saved set not exactly in its form, or with a value not allowed
+    Form,
     // lent room too small
     Room,
 }
@@ -123,6 +125,7 @@ pub fn number(refusal: Refusal) -> u8
         Refusal::Setting => 9,
         Refusal::Barred => 10,
         Refusal::Start => 11,
+        Refusal::Form => 12,
         Refusal::Room => 13,
     }
 }
@@ -143,6 +146,7 @@ pub fn cause(refusal: Refusal) -> u8
         Refusal::Setting => 6,
         Refusal::Barred => 6,
         Refusal::Start => 0,
+        Refusal::Form => 0,
         Refusal::Room => 0,
     }
 }

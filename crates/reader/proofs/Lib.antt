@@ -1,6 +1,7 @@
 pub mod Answering
 pub mod Hearing
 pub mod Judging
+pub mod Loading
 pub mod Outcomes
 pub mod Refusing
 pub mod ShortWay

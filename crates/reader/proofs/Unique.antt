@@ -5,8 +5,9 @@ use mathlib.Core.List.{List}
 use Rattle.framer.specs.declared.Event.{Event}
 use Rattle.sender.proofs.Unique as sending
 use Rattle.table.specs.declared.Table.{Table}
-use Rattle.reader.specs.Promises.{SwitchedOn, PowersUp, startedOf, Starts, TimesOut, Hears}
+use Rattle.reader.specs.Promises.{SwitchedOn, PowersUp, Loads, startedOf, Starts, TimesOut, Hears}
 use Rattle.reader.specs.declared.Reader.{Reader}
+use Rattle.reader.specs.declared.Loaded.{Loaded}
 use Rattle.reader.specs.declared.Started.{Started}
 use Rattle.reader.specs.declared.Taken.{Taken}
 
@@ -15,6 +16,9 @@ switched-on-unique p q = p .is ∙ sym (q .is)
 
 pub power-up-unique : {reader r r′ : Reader} → PowersUp reader r → PowersUp reader r′ → r ≡ r′
 power-up-unique p q = p .is ∙ sym (q .is)
+
+pub load-unique : {reader : Reader} {form : List ℕ} {r r′ : Loaded} → Loads reader form r → Loads reader form r′ → r ≡ r′
+load-unique p q = p .is ∙ sym (q .is)
 
 pub start-unique : {reader : Reader} {message copy bytes message₁ copy₁ message₂ copy₂ : List ℕ} {code : ℕ} {r r′ : Started} →
     Starts reader message copy code bytes r message₁ copy₁ → Starts reader message copy code bytes r′ message₂ copy₂ →

@@ -1,3 +1,4 @@
+pub mod Moments
 pub mod Promises
 pub mod Reader
 pub mod Refused

@@ -13,7 +13,7 @@ use Rattle.packet.specs.Sizes.{headSize, checksumSize, packetSize}
 use Rattle.packet.specs.declared.Refusal.the-variants as refusal
 use Rattle.framer.specs.Framer as Line
 use Rattle.framer.specs.Framer.{packet, refused as noPacket, framerStep}
-use Rattle.framer.specs.Halves.{lineIn, keptIn, receivedIn, idleHalves, listenedOf, bufferAfter, tellsNothing, acceptedOf}
+use Rattle.framer.specs.Halves.{lineIn, keptIn, receivedIn, idleHalves, halvesWith, listenedOf, bufferAfter, tellsNothing, acceptedOf}
 use Rattle.framer.specs.declared.Halves.{Halves}
 use Rattle.framer.specs.declared.Event.{Event}
 use Rattle.sender.specs.Sender.{Sent, senderStep, heedOf}
@@ -23,9 +23,11 @@ use Rattle.sender.specs.declared.Heard.the-variants.{TimeOut}
 use Rattle.sender.specs.declared.Outcome.the-variants as outcome
 use Rattle.sender.specs.declared.Sender.{Sender}
 use Rattle.sender.specs.declared.Sending.{Sending}
-use Rattle.table.specs.Table.{Values, powerUp}
-use Rattle.table.specs.Promises.{valuesOf}
+use Rattle.table.specs.Table.{Values, Outcome as Settled, done, refused as unsettled, powerUp}
+use Rattle.table.specs.Promises.{valuesOf, tableOf}
 use Rattle.table.specs.declared.Table.{Table}
+use Rattle.table.specs.declared.Verdict.the-variants as verdict
+use Rattle.saved.specs.Saved.{edition1, readForm}
 use Rattle.commands.specs.Commands.{fresh, judged}
 use Rattle.commands.specs.Promises.{beepOf, deviceOf, deviceFrom}
 use Rattle.commands.specs.declared.Command.{Command}
@@ -40,6 +42,7 @@ use Rattle.reader.specs.declared.Stepped.{Stepped}
 use Rattle.reader.specs.declared.Reader.{Reader}
 use Rattle.reader.specs.declared.Taken.{Taken}
 use Rattle.reader.specs.declared.Started.{Started}
+use Rattle.reader.specs.declared.Loaded.{Loaded}
 
 -- ---- the answers that are enums
 
@@ -124,6 +127,23 @@ pub record SwitchedOn (t : Table) (r : Reader) : Type 0 where
 
 pub record PowersUp (reader r : Reader) : Type 0 where
   pub is : r ≡ onControl (powerUp (valuesOf (reader .device .table)))
+
+-- The control value with a set read into it: the line's framer is left alone, and no packet is the last accepted one.
+abbrev pub withTable : Reader → Table → Reader
+withTable r t =
+    record {
+      line = halvesWith (r .line .framer) (r .line .second) 0;
+      «last_answer» = 0;
+      device = record { table = t; switches = r .device .switches };
+      sender = r .sender;
+    }
+
+unfoldable pub loadedOf : Reader → Settled → Loaded
+loadedOf reader (done v) = record { reader = withTable reader (tableOf v); verdict = verdict.Done }
+loadedOf reader (unsettled x) = record { reader = reader; verdict = verdict.Refused x }
+
+pub record Loads (reader : Reader) (form : List ℕ) (r : Loaded) : Type 0 where
+  pub is : r ≡ loadedOf reader (readForm edition1 form)
 
 -- Number 13 is tested first, and the event is then not taken: room for the longest answer, and for a packet.
 unfoldable pub tooSmall : List ℕ → List ℕ → Bool
@@ -226,6 +246,9 @@ pub record CoreWith (answer : ℕ) (d : Device) (s : Sender) (r : Core) : Type 0
 
 pub record ReaderOf (h : Halves) (c : Core) (r : Reader) : Type 0 where
   pub is : r ≡ readerOf h c
+
+pub record WithTable (reader : Reader) (t : Table) (r : Reader) : Type 0 where
+  pub is : r ≡ withTable reader t
 
 -- A step that the sender has no part in.
 abbrev pub stepOf : Core → Told → ℕ → Stepped

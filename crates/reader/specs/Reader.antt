@@ -1,4 +1,4 @@
--- §6, §7, §10 and §11: the reader's whole end: framer, command side and sender.
+-- §6, §7, §10, §11 and §21: the reader's whole end: framer, command side and sender, and a saved set read into it.
 use Prim.Native.Nat.{ℕ, _+_}
 use mathlib.Core.Bool.{Bool, true, false}
 use mathlib.Core.List.{List, [], _∷_, _++_, map}
@@ -19,7 +19,8 @@ use Rattle.framer.specs.declared.Event.{Event}
 use Rattle.sender.specs.Sender.{SenderState, nothingOut, waits, Sent, startStep, senderStep, heedOf}
 use Rattle.sender.specs.declared.Heard.the-variants.{TimeOut}
 use Rattle.table.specs.Rows.{pairsSize}
-use Rattle.table.specs.Table.{Values, powerUp, valueOf, answerData}
+use Rattle.table.specs.Table.{Values, Outcome as Settled, done, refused as unsettled, powerUp, valueOf, answerData}
+use Rattle.saved.specs.Saved.{edition1, readForm}
 use Rattle.commands.specs.Commands.{DeviceState, fresh, namedBy, lengthAllowed, Acted, denied, acted, effect}
 use Rattle.commands.specs.declared.Command.{Command}
 use Rattle.commands.specs.declared.Command.the-variants.{ParamSend, ParamRequest, ParamDefaults, StartSession, StopSession, Beep, LedOn, LedOff, ScanEnable, ScanDisable, AimOn, AimOff}
@@ -149,6 +150,21 @@ switchedOn v = record { line = hearing []; core = record { device = fresh v; las
 -- Power-up copies permanent to present, clears framer and sender and forgets the last accepted packet.
 unfoldable pub powerUpReader : ReaderState → ReaderState
 powerUpReader r = switchedOn (powerUp (r .core .device .values))
+
+-- A saved set replaces values and locks, and the last accepted packet is forgotten; nothing else changes. Bytes that are no form change nothing.
+unfoldable pub withSet : ReaderState → Values → ReaderState
+withSet r v =
+    record {
+      line = r .line;
+      core = record { device = record { values = v; switches = r .core .device .switches }; last = []; lastAnswer = []; sender = r .core .sender };
+    }
+
+unfoldable pub settled : ReaderState → Settled → Done ReaderState Output
+settled r (done v) = record { next = withSet r v; told = [] }
+settled r (unsettled x) = record { next = r; told = refused x ∷ [] }
+
+unfoldable pub loadSet : ReaderState → List ℕ → Done ReaderState Output
+loadSet r bytes = settled r (readForm edition1 bytes)
 
 -- The bytes that answer a refusal, for the theorems that say so: NAK with its cause, if 9Fh is 1; none for 1 to 3 while the sender waits for an answer,
 -- and none for 13.

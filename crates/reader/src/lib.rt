@@ -32,7 +32,7 @@ ghost use Rattle.table.specs.Rows.{pairsSize};
 ghost use Rattle.table.specs.Promises.{valuesOf};
 ghost use Rattle.reader.specs.Reader.{readerAnswerSize, judgedStep, knownStep, noPacketStep, refuses, ifHandshake, requestBytes, answerTo};
 ghost use Rattle.commands.specs.Promises.{deviceOf};
-ghost use Rattle.reader.specs.Promises.{SwitchedOn, PowersUp, Hears, Starts, TimesOut, NoRoom, Quiet, SoundCore, Handshake, Writes, CoreWith, ReaderOf, StepOf, SentBy, Joined, Accepts, ToSender, Leaves, Judges, Performs, Again, Acts, Filled, Settles, Receives};
+ghost use Rattle.reader.specs.Promises.{SwitchedOn, PowersUp, Loads, Hears, Starts, TimesOut, NoRoom, Quiet, SoundCore, Handshake, Writes, CoreWith, ReaderOf, WithTable, StepOf, SentBy, Joined, Accepts, ToSender, Leaves, Judges, Performs, Again, Acts, Filled, Settles, Receives};
 
 // The longest answer: a PARAM_SEND with all parameters.
 pub const READER_ANSWER_SIZE: usize = packet::HEAD_SIZE + table::PAIRS_SIZE + packet::CHECKSUM_SIZE;
@@ -66,6 +66,12 @@ pub struct Taken {
 pub struct Started {
     pub reader: Reader,
     pub outcome: Outcome,
+}
+
+// Whether a saved set was taken.
+pub struct Loaded {
+    pub reader: Reader,
+    pub verdict: table::Verdict,
 }
 
 // The reader's control value without its line.
@@ -108,6 +114,48 @@ pub fn power_up(reader: Reader) -> Reader
     let device = reader.device;
     let table = device.table;
     switched_on(table)
+}
+
+// Reads a saved set: it replaces permanent and present values and the locks, and the last accepted packet is forgotten. 12 for bytes
+// that are no form, and the reader stays.
+pub fn load(reader: Reader, form: &[u8]) -> Loaded
+    ensures { λ r. ⌜ Loads reader (now (form .entry)) r ⌝ }
+{
+    let device = reader.device;
+    let table = device.table;
+    let changed = saved::load(table, form);
+    let set = changed.table;
+    let verdict = changed.verdict;
+    match verdict {
+        table::Verdict::Done => Loaded {
+            reader: with_table(reader, set),
+            verdict: table::Verdict::Done,
+        },
+        table::Verdict::Refused(refusal) => Loaded {
+            reader,
+            verdict: table::Verdict::Refused(refusal),
+        },
+    }
+}
+
+fn with_table(reader: Reader, table: Table) -> Reader
+    ensures { λ r. ⌜ WithTable reader table r ⌝ }
+{
+    let line = reader.line;
+    let framer = line.framer;
+    let device = reader.device;
+    let switches = device.switches;
+    let sender = reader.sender;
+    Reader {
+        line: Halves {
+            framer,
+            second: line.second,
+            last: 0,
+        },
+        last_answer: 0,
+        device: Device { table, switches },
+        sender,
+    }
 }
 
 // Starts a message.

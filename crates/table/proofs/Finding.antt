@@ -8,15 +8,19 @@ use native.Mathlib.Nat.{zero-add}
 use native.Mathlib.Numerals.{add-one}
 use native.Mathlib.Omega.{arith}
 use lib.Dec.{eqb}
-use lib.ListN.{length, getD, take, drop, set, length-set, List·getD-eq-default}
-use lib.Seq.{drop-cons, drop-length, take-all, take-suc, take-suc-set}
+use lib.ListN.{length, getD, drop, set, replicate, List·getD-eq-default}
+use lib.Seq.{drop-cons, drop-length, getD-drop}
 use borrow.Author.Tests.{eq-eqb, ne-eqb, lt-ltb, le-ltb, le-leb, lt-leb, eqb-true}
 use Rattle.words.specs.Lists.{pick, both}
 use Rattle.words.proofs.Lists.{both-left, both-right}
-use Rattle.table.specs.Rows.{parameterCount, rows, placeIn, placeOf, supported, triggerAllowed, rangeAllowed, allowed, defaultsOf}
-use Rattle.table.specs.Promises.{Place, House, TriggerAllowed, Allowed, Value}
-use Rattle.table.specs.Table.{valueOf}
+use Rattle.words.proofs.Loops.{Filling, filled-none, filled-more, filled-all}
+use Rattle.table.specs.Rows.{parameterCount, rows, placeIn, placeOf, supported, triggerAllowed, rangeAllowed, rowAllows, allowed, defaultsOf}
+use Rattle.table.specs.Promises.{Place, Restores, UnlessLocked, TriggerAllowed, RowAllows, Allowed, Value, Locked}
+use Rattle.table.specs.Table.{lockedIn, restored, valueOf}
 use Rattle.table.specs.declared.Table.{Table}
+
+pub one-more : (i : ℕ) → 1 + i ≡ suc i
+one-more i = omega arith
 
 -- A row for each parameter.
 pub many : length rows ≡ parameterCount
@@ -95,7 +99,7 @@ place-at i h = placed-from rows rows 0 all-placed i h ∙ zero-add i
 pub same-place : (m n : ℕ) → placeOf m < parameterCount → placeOf m ≡ placeOf n → m ≡ n
 same-place m n h e = sym (number-at rows m (omega (arith, many))) ∙ (rw e (number-at rows n (omega (arith, many))))
 
--- ---- `house`
+-- ---- `restored`
 
 pub length-defaults : (table : List (List ℕ)) → length (defaultsOf table) ≡ length table
 unfolding defaultsOf
@@ -108,33 +112,49 @@ default-at [] i h = absurd (omega arith)
 default-at (row ∷ rest) zero h = refl
 default-at (row ∷ rest) (suc i) h = default-at rest i (omega arith)
 
--- The first i values are the defaults.
-pub record Housing (values : List ℕ) (i : ℕ) : Type 0 where
-  pub at : i ≤ length rows
-  pub long : length values ≡ length rows
-  pub is : take i values ≡ take i (defaultsOf rows)
+pub length-restored : (locked : List Bool) (values ds : List ℕ) → length (restored locked values ds) ≡ length ds
+unfolding restored
+length-restored locked values [] = refl
+length-restored locked values (d ∷ ds) = ap suc (length-restored (drop 1 locked) (drop 1 values) ds)
 
-pub housing-none : {values : List ℕ} → length values ≡ length rows → Housing values 0
-housing-none e = record { at = omega arith; long = e; is = refl }
+pub restored-at : (locked : List Bool) (values ds : List ℕ) (i : ℕ) → i < length ds →
+    getD (restored locked values ds) i 0 ≡ pick (getD locked i false) (getD values i 0) (getD ds i 0)
+unfolding restored
+restored-at locked values [] i h = absurd (omega arith)
+restored-at locked values (d ∷ ds) zero h = refl
+restored-at locked values (d ∷ ds) (suc i) h =
+    restored-at (drop 1 locked) (drop 1 values) ds i (omega arith)
+    ∙ rw (getD-drop 1 locked i false, getD-drop 1 values i 0, one-more i) refl
 
-pub housing-more : {values : List ℕ} {i : ℕ} → Housing values i → i < length rows → Housing (set values i (getD (getD rows i []) 3 0)) (i + 1)
-housing-more {values} {i} k h =
-    let d = length-defaults rows in
-    record {
-      at = omega arith;
-      long = length-set values i (getD (getD rows i []) 3 0) ∙ k .long;
-      is =
-          rw (add-one i, take-suc-set values i (getD (getD rows i []) 3 0) (omega (arith, k .long)), k .is, ← default-at rows i h)
-          (sym (take-suc (defaultsOf rows) i 0 (omega arith)));
-    }
+-- With nothing locked the defaults are left.
+pub restored-none : (n : ℕ) (values ds : List ℕ) → restored (replicate n false) values ds ≡ ds
+unfolding restored
+restored-none n values [] = refl
+restored-none zero values (d ∷ ds) = ap (λ (r : List ℕ). d ∷ r) (restored-none zero (drop 1 values) ds)
+restored-none (suc n) values (d ∷ ds) = ap (λ (r : List ℕ). d ∷ r) (restored-none n (drop 1 values) ds)
 
-pub housing-all : {values : List ℕ} {i : ℕ} → Housing values i → length rows ≤ i → House values
-housing-all {values} {i} k h =
-    record {
-      is =
-          sym (take-all i values (omega (arith, k .long)))
-          ∙ (k .is ∙ take-all i (defaultsOf rows) (omega (arith, length-defaults rows)));
-    }
+-- The first i values are restored.
+pub record Restoring (locked : List Bool) (values next : List ℕ) (i : ℕ) : Type 0 where
+  pub filling : Filling (restored locked values (defaultsOf rows)) next i
+
+restored-rows : (locked : List Bool) (values : List ℕ) → length (restored locked values (defaultsOf rows)) ≡ parameterCount
+restored-rows locked values = length-restored locked values (defaultsOf rows) ∙ (length-defaults rows ∙ many)
+
+module _ {locked : List Bool} {values next : List ℕ} where
+  pub restoring-none : length next ≡ parameterCount → Restoring locked values next 0
+  restoring-none e = record { filling = filled-none (e ∙ sym (restored-rows locked values)) }
+
+  pub restoring-more : {i x : ℕ} → Restoring locked values next i → i < parameterCount → UnlessLocked (getD locked i false) (getD values i 0) (getD (getD rows i []) 3 0) x →
+      Restoring locked values (set next i x) (i + 1)
+  restoring-more {i} {x} k h u =
+      let x-is : x ≡ getD (restored locked values (defaultsOf rows)) i 0 =
+      u .is
+      ∙ (rw (← default-at rows i (omega (arith, many))) refl
+      ∙ sym (restored-at locked values (defaultsOf rows) i (omega (arith, length-defaults rows, many)))) in
+      record { filling = filled-more 0 x (k .filling) (omega (arith, restored-rows locked values)) x-is }
+
+  pub restoring-all : {i : ℕ} → Restoring locked values next i → parameterCount ≤ i → Restores locked values next
+  restoring-all k h = record { is = filled-all (k .filling) (omega (arith, restored-rows locked values)) }
 
 -- ---- `trigger_allowed` and `allowed`
 
@@ -153,34 +173,36 @@ pub unsupported-at : {number at : ℕ} → Place number at → parameterCount �
 unfolding supported
 unsupported-at {number} {at} p h = le-ltb (placeOf number) parameterCount (omega (arith, p .is))
 
+module _ {at value : ℕ} where
+  pub row-low : value < getD (getD rows at []) 1 0 → RowAllows at value false
+  unfolding rowAllows rangeAllowed
+  row-low l = record { is = simp (lt-leb (getD (getD rows at []) 1 0) value l) }
+
+  module _ (l : getD (getD rows at []) 1 0 ≤ value) where
+    pub row-high : getD (getD rows at []) 2 0 < value → RowAllows at value false
+    unfolding rowAllows rangeAllowed
+    row-high m = record { is = simp (le-leb (getD (getD rows at []) 1 0) value l, lt-leb value (getD (getD rows at []) 2 0) m) }
+
+    module _ (m : value ≤ getD (getD rows at []) 2 0) where
+      pub row-trigger : {r : Bool} → getD (getD rows at []) 0 0 ≡ 0x8A → TriggerAllowed value r → RowAllows at value r
+      unfolding rowAllows rangeAllowed
+      row-trigger e t =
+          record {
+            is = t .is ∙ simp (le-leb (getD (getD rows at []) 1 0) value l, le-leb value (getD (getD rows at []) 2 0) m, eq-eqb (getD (getD rows at []) 0 0) 0x8A e);
+          }
+
+      pub row-right : (getD (getD rows at []) 0 0 ≡ 0x8A → ⊥) → RowAllows at value true
+      unfolding rowAllows rangeAllowed
+      row-right d = record { is = simp (le-leb (getD (getD rows at []) 1 0) value l, le-leb value (getD (getD rows at []) 2 0) m, ne-eqb (getD (getD rows at []) 0 0) 0x8A d) }
+
 module _ {number value at : ℕ} (p : Place number at) where
   pub allowed-unknown : parameterCount ≤ at → Allowed number value false
   unfolding allowed
   allowed-unknown h = record { is = simp (unsupported-at p h) }
 
-  pub allowed-low : at < parameterCount → value < getD (getD rows at []) 1 0 → Allowed number value false
-  unfolding allowed rangeAllowed
-  allowed-low h l = record { is = simp (supported-at p h, sym (p .is), lt-leb (getD (getD rows at []) 1 0) value l) }
-
-  module _ (h : at < parameterCount) (l : getD (getD rows at []) 1 0 ≤ value) where
-    pub allowed-high : getD (getD rows at []) 2 0 < value → Allowed number value false
-    unfolding allowed rangeAllowed
-    allowed-high m = record { is = simp (supported-at p h, sym (p .is), le-leb (getD (getD rows at []) 1 0) value l, lt-leb value (getD (getD rows at []) 2 0) m) }
-
-    module _ (m : value ≤ getD (getD rows at []) 2 0) where
-      pub allowed-trigger : {r : Bool} → number ≡ 0x8A → TriggerAllowed value r → Allowed number value r
-      unfolding allowed rangeAllowed
-      allowed-trigger e t =
-          record {
-            is =
-                t .is
-                ∙ simp (supported-at p h, sym (p .is), le-leb (getD (getD rows at []) 1 0) value l, le-leb value (getD (getD rows at []) 2 0) m, eq-eqb number 0x8A e);
-          }
-
-      pub allowed-right : (number ≡ 0x8A → ⊥) → Allowed number value true
-      unfolding allowed rangeAllowed
-      allowed-right d =
-          record { is = simp (supported-at p h, sym (p .is), le-leb (getD (getD rows at []) 1 0) value l, le-leb value (getD (getD rows at []) 2 0) m, ne-eqb number 0x8A d) }
+  pub allowed-row : {r : Bool} → at < parameterCount → RowAllows at value r → Allowed number value r
+  unfolding allowed
+  allowed-row h a = record { is = a .is ∙ simp (supported-at p h, sym (p .is)) }
 
 -- ---- `value`
 
@@ -191,3 +213,13 @@ value-found {t} p = record { is = ap (λ (i : ℕ). getD (t .present) i 0) (p .i
 pub value-none : {t : Table} {number at : ℕ} → Place number at → length (t .present) ≤ at → Value t number 0
 unfolding valueOf
 value-none {t} p h = record { is = sym (List·getD-eq-default (t .present) 0 (omega (arith, p .is))) }
+
+-- ---- `locked`
+
+pub locked-found : {t : Table} {number at : ℕ} → Place number at → Locked t number (getD (t .locked) at false)
+unfolding lockedIn
+locked-found {t} p = record { is = ap (λ (i : ℕ). getD (t .locked) i false) (p .is) }
+
+pub locked-none : {t : Table} {number at : ℕ} → Place number at → length (t .locked) ≤ at → Locked t number false
+unfolding lockedIn
+locked-none {t} p h = record { is = sym (List·getD-eq-default (t .locked) false (omega (arith, p .is))) }

@@ -2,28 +2,35 @@
 -- The pairs of an even number of bytes are read two bytes further at each turn. Assumes nothing.
 use Prim.Native.Nat.{ℕ, suc, _+_, _%_, _≤_, _<_}
 use mathlib.Core.Path.{_≡_, refl, sym, ap, _∙_}
-use mathlib.Core.Bool.{Bool, true, false}
+use mathlib.Core.Bool.{Bool, true, false, not}
 use mathlib.Core.List.{List, [], _∷_}
 use native.Mathlib.Numerals.{add-one}
 use native.Mathlib.Omega.{arith}
 use lib.Dec.{eqb, ltb, leb}
-use lib.ListN.{length, getD, drop, set, length-drop, length-set, drop-of-length-le}
+use lib.ListN.{length, getD, drop, set, replicate, length-drop, length-set, drop-of-length-le}
 use lib.Seq.{drop-cons, set-out}
 use borrow.Author.Tests.{lt-ltb, eqb-true, eqb-false}
+use Rattle.words.proofs.Lists.{both-false}
 use Rattle.packet.specs.Sizes.{dataSize}
 use Rattle.packet.specs.declared.Refusal.the-variants.{Data, Setting}
-use Rattle.table.specs.Rows.{parameterCount, rows, placeOf}
-use Rattle.table.specs.Table.{Pair, wrongLength, pairs, behind, readPairs, isRead, sendLengthAllowed, requestLengthAllowed, allAllowed, setAll, changed, setPairs, defaults, powerUp}
-use Rattle.table.specs.Promises.{Defaults, PowerUp, Sets, SendLengthAllowed, RequestLengthAllowed, House, Place, Allowed, Even, Judges, Full, Puts, PutsAll, Changes, pairsOf, changedOf}
+use Rattle.table.specs.Rows.{parameterCount, rows, placeOf, allowed, defaultsOf}
+use Rattle.table.specs.Table.{Pair, wrongLength, pairs, behind, readPairs, isRead, sendLengthAllowed, requestLengthAllowed, lockedIn, settable, allSettable, setAll, changed, setPairs, noLocks, defaults, setDefaults, powerUp}
+use Rattle.table.specs.Promises.{Defaults, SetsDefaults, PowerUp, Sets, SendLengthAllowed, RequestLengthAllowed, Restores, Place, RowAllows, Even, Settable, Judges, Full, Puts, PutsAll, Changes, pairsOf, changedOf}
 use Rattle.table.specs.declared.Table.{Table}
 use Rattle.table.specs.declared.Changed.{Changed}
 use Rattle.table.specs.declared.Verdict.the-variants.{Done, Refused}
+use Rattle.table.proofs.Finding.{restored-none, allowed-unknown, allowed-row}
 
-pub defaults-made : {values : List ℕ} → House values → Defaults (record { present = values; permanent = values })
-unfolding defaults
-defaults-made {values} h = record { is = rw (h .is) refl }
+module _ {t : Table} {present permanent : List ℕ} (p : Restores (t .locked) (t .present) present) (q : Restores (t .locked) (t .permanent) permanent) where
+  pub defaults-set : SetsDefaults t (record { present = present; permanent = permanent; locked = t .locked })
+  unfolding setDefaults
+  defaults-set = record { is = rw (p .is, q .is) refl }
 
-pub powered-up : {t : Table} → PowerUp t (record { present = t .permanent; permanent = t .permanent })
+pub defaults-made : {r : Table} → SetsDefaults (record { present = replicate parameterCount 0; permanent = replicate parameterCount 0; locked = noLocks }) r → Defaults r
+unfolding defaults setDefaults
+defaults-made k = record { is = k .is ∙ rw (restored-none parameterCount (replicate parameterCount 0) (defaultsOf rows)) refl }
+
+pub powered-up : {t : Table} → PowerUp t (record { present = t .permanent; permanent = t .permanent; locked = t .locked })
 unfolding powerUp
 powered-up = record { is = refl }
 
@@ -101,29 +108,46 @@ pub read-end : (bytes : List ℕ) (i : ℕ) → length bytes ≤ i → pairsOf (
 unfolding readPairs pairsOf
 read-end bytes i h = rw (drop-of-length-le bytes {i = i} h) refl
 
--- ---- `all_allowed`
+-- ---- `settable` and `all_settable`
 
--- Every pair passed is allowed, so the judgement is that of the rest.
-pub record Judging (bytes : List ℕ) (i : ℕ) : Type 0 where
+locked-at : (locked : List Bool) {number at : ℕ} → Place number at → lockedIn locked number ≡ getD locked at false
+unfolding lockedIn
+locked-at locked p = ap (λ (i : ℕ). getD locked i false) (sym (p .is))
+
+module _ {t : Table} {number value at : ℕ} (p : Place number at) where
+  pub settable-locked : getD (t .locked) at false ≡ true → Settable t number value false
+  unfolding settable
+  settable-locked e = record { is = simp (locked-at (t .locked) p ∙ e) }
+
+  pub settable-free : {r : Bool} → at < parameterCount → getD (t .locked) at false ≡ false → RowAllows at value r → Settable t number value r
+  unfolding settable
+  settable-free h e a = record { is = allowed-row p h a .is ∙ simp (locked-at (t .locked) p ∙ e) }
+
+  pub settable-unknown : parameterCount ≤ at → Settable t number value false
+  unfolding settable
+  settable-unknown h = record { is = sym (both-false (not (lockedIn (t .locked) number)) (allowed number value) (sym (allowed-unknown p h .is))) }
+
+-- Every pair passed may be set, so the judgement is that of the rest.
+pub record Judging (t : Table) (bytes : List ℕ) (i : ℕ) : Type 0 where
   pub within : Within bytes i
-  pub rest : allAllowed (pairsOf (readPairs bytes)) ≡ allAllowed (pairsOf (readPairs (drop i bytes)))
+  pub rest : allSettable (t .locked) (pairsOf (readPairs bytes)) ≡ allSettable (t .locked) (pairsOf (readPairs (drop i bytes)))
 
-pub judging-none : {bytes : List ℕ} → Even bytes → Judging bytes 0
+pub judging-none : {t : Table} {bytes : List ℕ} → Even bytes → Judging t bytes 0
 judging-none e = record { within = within-none e; rest = refl }
 
-module _ {bytes : List ℕ} {i : ℕ} {r : Bool} (k : Judging bytes i) (h : i < length bytes) (a : Allowed (getD bytes i 0) (getD bytes (i + 1) 0) r) where
-  pub judging-more : r ≡ true → Judging bytes (i + 2)
-  unfolding allAllowed
+module _ {t : Table} {bytes : List ℕ} {i : ℕ} {r : Bool} (k : Judging t bytes i) (h : i < length bytes) (a : Settable t (getD bytes i 0) (getD bytes (i + 1) 0) r) where
+  pub judging-more : r ≡ true → Judging t bytes (i + 2)
+  unfolding allSettable
   judging-more e =
       record { within = within-more (k .within) h; rest = k .rest ∙ rw (read-step (k .within) h) (simp (sym (a .is) ∙ e)) }
 
-  pub judging-bad : r ≡ false → Judges bytes false
-  unfolding allAllowed
+  pub judging-bad : r ≡ false → Judges t bytes false
+  unfolding allSettable
   judging-bad e = record { is = sym (k .rest ∙ rw (read-step (k .within) h) (simp (sym (a .is) ∙ e))) }
 
-pub judging-all : {bytes : List ℕ} {i : ℕ} → Judging bytes i → length bytes ≤ i → Judges bytes true
-unfolding allAllowed
-judging-all {bytes} {i} k h = record { is = sym (k .rest ∙ rw (read-end bytes i h) refl) }
+pub judging-all : {t : Table} {bytes : List ℕ} {i : ℕ} → Judging t bytes i → length bytes ≤ i → Judges t bytes true
+unfolding allSettable
+judging-all {t} {bytes} {i} k h = record { is = sym (k .rest ∙ rw (read-end bytes i h) refl) }
 
 -- ---- `put` and `put_all`
 
@@ -159,12 +183,12 @@ putting-all {bytes = bytes} {i = i} k h = record { is = sym (k .rest ∙ rw (rea
 -- ---- `change` and `set`
 
 module _ {t : Table} {bytes present : List ℕ} {forever : Bool} (p : PutsAll (t .present) bytes present) where
-  pub changed-present : forever ≡ false → Changes t bytes forever (record { table = record { present = present; permanent = t .permanent }; verdict = Done })
+  pub changed-present : forever ≡ false → Changes t bytes forever (record { table = record { present = present; permanent = t .permanent; locked = t .locked }; verdict = Done })
   unfolding changed
   changed-present e = record { is = rw (p .is, e) refl }
 
   pub changed-both : {permanent : List ℕ} → forever ≡ true → PutsAll (t .permanent) bytes permanent →
-      Changes t bytes forever (record { table = record { present = present; permanent = permanent }; verdict = Done })
+      Changes t bytes forever (record { table = record { present = present; permanent = permanent; locked = t .locked }; verdict = Done })
   unfolding changed
   changed-both e q = record { is = rw (p .is, q .is, e) refl }
 
@@ -172,7 +196,7 @@ pub set-length : {t : Table} {bytes : List ℕ} {forever : Bool} → (length byt
 unfolding changedOf setPairs
 set-length {t} {bytes} d = record { is = rw (read-odd bytes d) refl }
 
-module _ {t : Table} {bytes : List ℕ} {forever r : Bool} (e : length bytes % 2 ≡ 0) (j : Judges bytes r) where
+module _ {t : Table} {bytes : List ℕ} {forever r : Bool} (e : length bytes % 2 ≡ 0) (j : Judges t bytes r) where
   pub set-refused : r ≡ false → Sets t bytes forever (record { table = t; verdict = Refused Setting })
   unfolding changedOf setPairs
   set-refused f = record { is = rw (read-even bytes e) (simp (sym (j .is) ∙ f)) }

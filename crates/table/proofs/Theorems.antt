@@ -1,5 +1,5 @@
--- The theorems over the table's definitions: what a list of settings changes and what it leaves, that every value stays allowed,
--- and what an answer names. Assumes nothing.
+-- The theorems over the table's definitions: what a list of settings changes and what it leaves, that every value stays allowed and what is
+-- locked is kept, and what an answer names. Assumes nothing.
 use Prim.Native.Nat.{ℕ, zero, suc, _+_, _*_, _≤_, _<_}
 use mathlib.Core.Path.{_≡_, refl, sym, _∙_}
 use mathlib.Core.Bool.{Bool, true, false, not}
@@ -13,13 +13,13 @@ use Rattle.words.specs.Lists.{pick, both, either}
 use Rattle.words.proofs.Lists.{both-left, both-right, both-false, never, either-true}
 use Rattle.packet.specs.declared.Refusal.{Refusal}
 use Rattle.packet.specs.declared.Refusal.the-variants.{Setting, Room}
-use Rattle.table.specs.Rows.{parameterCount, pairsSize, rows, placeIn, placeOf, supported, triggerAllowed, rangeAllowed, allowed, defaultsOf}
-use Rattle.table.specs.Table.{Values, Pair, Reading, wrongLength, pairs, allAllowed, setAll, changed, done, refused, setPairs, defaults, powerUp, member, askedFor, numbersOf, answeredNumbers, answerData}
+use Rattle.table.specs.Rows.{parameterCount, pairsSize, rows, placeIn, placeOf, supported, triggerAllowed, rangeAllowed, rowAllows, allowed, defaultsOf}
+use Rattle.table.specs.Table.{Values, Pair, Reading, wrongLength, pairs, lockedIn, settable, allSettable, setAll, changed, Outcome, done, refused, setPairs, defaults, restored, setDefaults, powerUp, member, askedFor, numbersOf, answeredNumbers, answerData}
 use Rattle.table.specs.Promises.{Answers, valuesOf, changedOf, marks}
 use Rattle.table.specs.declared.Table.{Table}
 use Rattle.table.specs.declared.Written.{Written}
 use Rattle.table.specs.declared.Written.the-variants.{Bytes, Refused}
-use Rattle.table.proofs.Finding.{many, number-at, same-place, length-defaults}
+use Rattle.table.proofs.Finding.{many, number-at, same-place, length-defaults, length-restored, restored-at}
 use Rattle.table.proofs.Answering.{marks-set, marks-most, marks-none, marked-by, member-append, length-pairs, either-false, either-assoc}
 
 -- ---- what a list of settings changes
@@ -33,11 +33,11 @@ placed-in : (n : ℕ) → supported n ≡ true → placeOf n < parameterCount
 unfolding supported
 placed-in n s = ltb-true (placeOf n) parameterCount s
 
-either-left : (a b : Bool) → either a b ≡ false → a ≡ false
+pub either-left : (a b : Bool) → either a b ≡ false → a ≡ false
 either-left true b e = e
 either-left false b e = refl
 
-either-right : (a b : Bool) → either a b ≡ false → b ≡ false
+pub either-right : (a b : Bool) → either a b ≡ false → b ≡ false
 either-right true b e = cc
 either-right false b e = e
 
@@ -62,16 +62,25 @@ pub refused-changes-nothing : (t : Table) (r : Refusal) → changedOf t (refused
 unfolding changedOf
 refused-changes-nothing t r = refl
 
--- One bad pair, wherever it stands, refuses the whole list.
-bad-in : (ps qs : List Pair) (p : Pair) → allowed (p .number) (p .value) ≡ false → allAllowed (ps ++ (p ∷ qs)) ≡ false
-unfolding allAllowed
-bad-in [] qs p e = simp e
-bad-in (x ∷ ps) qs p e = both-false (allowed (x .number) (x .value)) (allAllowed (ps ++ (p ∷ qs))) (bad-in ps qs p e)
+-- One pair that may not be set, wherever it stands, refuses the whole list.
+bad-in : (locked : List Bool) (ps qs : List Pair) (p : Pair) → settable locked p ≡ false → allSettable locked (ps ++ (p ∷ qs)) ≡ false
+unfolding allSettable
+bad-in locked [] qs p e = simp e
+bad-in locked (x ∷ ps) qs p e = both-false (settable locked x) (allSettable locked (ps ++ (p ∷ qs))) (bad-in locked ps qs p e)
 
-pub bad-pair-refuses : (forever : Bool) (ps qs : List Pair) (p : Pair) (t : Values) → allowed (p .number) (p .value) ≡ false →
+pub bad-pair-refuses : (forever : Bool) (ps qs : List Pair) (p : Pair) (t : Values) → settable (t .locked) p ≡ false →
     setPairs forever (pairs (ps ++ (p ∷ qs))) t ≡ refused Setting
 unfolding setPairs
-bad-pair-refuses forever ps qs p t e = simp (bad-in ps qs p e)
+bad-pair-refuses forever ps qs p t e = simp (bad-in (t .locked) ps qs p e)
+
+-- A value that is not allowed is such a pair, and so is a locked parameter with any value.
+pub disallowed-unsettable : (locked : List Bool) (p : Pair) → allowed (p .number) (p .value) ≡ false → settable locked p ≡ false
+unfolding settable
+disallowed-unsettable locked p e = both-false (not (lockedIn locked (p .number))) (allowed (p .number) (p .value)) e
+
+pub locked-unsettable : (locked : List Bool) (p : Pair) → lockedIn locked (p .number) ≡ true → settable locked p ≡ false
+unfolding settable
+locked-unsettable locked p e = simp e
 
 -- Without bit 3 no permanent value changes.
 pub temporary-stays-temporary : (ps : List Pair) (t : Values) → changed false ps t .permanent ≡ t .permanent
@@ -127,7 +136,7 @@ default-allowed (row ∷ rest) t (suc i) h =
     default-allowed rest (both-right (allowed (getD row 0 0) (getD row 3 0)) (defaultsAllowed rest) t) i (omega arith)
 
 defaults-tested : defaultsAllowed rows ≡ true
-unfolding defaultsAllowed rows allowed supported rangeAllowed triggerAllowed placeIn
+unfolding defaultsAllowed rows allowed supported rowAllows rangeAllowed triggerAllowed placeIn
 defaults-tested = refl
 
 -- The house defaults are allowed.
@@ -149,48 +158,180 @@ set-one-allowed : (values : List ℕ) (n v : ℕ) → AllAllowedIn values → al
 set-one-allowed values n v k a =
     record { long = length-set values (placeOf n) v ∙ k .long; each = λ i h. set-one-at values n v k a i h (eqb i (placeOf n)) refl }
 
--- A list of allowed pairs keeps every value allowed.
-pub set-all-allowed : (ps : List Pair) (values : List ℕ) → AllAllowedIn values → allAllowed ps ≡ true → AllAllowedIn (setAll ps values)
-unfolding setAll allAllowed
-set-all-allowed [] values k a = k
-set-all-allowed (p ∷ ps) values k a =
-    set-all-allowed ps (set values (placeOf (p .number)) (p .value))
-    (set-one-allowed values (p .number) (p .value) k (both-left (allowed (p .number) (p .value)) (allAllowed ps) a))
-    (both-right (allowed (p .number) (p .value)) (allAllowed ps) a)
+-- What may be set is allowed.
+settable-allowed : (locked : List Bool) (p : Pair) → settable locked p ≡ true → allowed (p .number) (p .value) ≡ true
+unfolding settable
+settable-allowed locked p e = both-right (not (lockedIn locked (p .number))) (allowed (p .number) (p .value)) e
+
+-- A list of pairs that may be set keeps every value allowed.
+pub set-all-allowed : (locked : List Bool) (ps : List Pair) (values : List ℕ) → AllAllowedIn values → allSettable locked ps ≡ true → AllAllowedIn (setAll ps values)
+unfolding setAll allSettable
+set-all-allowed locked [] values k a = k
+set-all-allowed locked (p ∷ ps) values k a =
+    set-all-allowed locked ps (set values (placeOf (p .number)) (p .value))
+    (set-one-allowed values (p .number) (p .value) k (settable-allowed locked p (both-left (settable locked p) (allSettable locked ps) a)))
+    (both-right (settable locked p) (allSettable locked ps) a)
+
+-- Restored values are allowed: the default or the value there was.
+restored-by : (i v d : ℕ) (l : Bool) → allowed (getD (getD rows i []) 0 0) v ≡ true → allowed (getD (getD rows i []) 0 0) d ≡ true →
+    allowed (getD (getD rows i []) 0 0) (pick l v d) ≡ true
+restored-by i v d true a b = a
+restored-by i v d false a b = b
+
+pub restored-allowed : (locked : List Bool) (values : List ℕ) → AllAllowedIn values → AllAllowedIn (restored locked values (defaultsOf rows))
+restored-allowed locked values k =
+    let l = length-defaults rows ∙ many in
+    record {
+      long = length-restored locked values (defaultsOf rows) ∙ l;
+      each = λ i h. rw (restored-at locked values (defaultsOf rows) i (omega arith))
+          (restored-by i (getD values i 0) (getD (defaultsOf rows) i 0) (getD locked i false) (k .each i h) (defaults-allowed .each i h));
+    }
 
 -- The same of a table, present and permanent.
 pub record AllAllowed (t : Values) : Type 0 where
   pub present : AllAllowedIn (t .present)
   pub permanent : AllAllowedIn (t .permanent)
 
-changed-allowed : (forever : Bool) (ps : List Pair) (t : Values) → AllAllowed t → allAllowed ps ≡ true → AllAllowed (changed forever ps t)
+changed-allowed : (forever : Bool) (ps : List Pair) (t : Values) → AllAllowed t → allSettable (t .locked) ps ≡ true → AllAllowed (changed forever ps t)
 unfolding changed
-changed-allowed true ps t k a = record { present = set-all-allowed ps (t .present) (k .present) a; permanent = set-all-allowed ps (t .permanent) (k .permanent) a }
-changed-allowed false ps t k a = record { present = set-all-allowed ps (t .present) (k .present) a; permanent = k .permanent }
+changed-allowed true ps t k a =
+    record { present = set-all-allowed (t .locked) ps (t .present) (k .present) a; permanent = set-all-allowed (t .locked) ps (t .permanent) (k .permanent) a }
+changed-allowed false ps t k a = record { present = set-all-allowed (t .locked) ps (t .present) (k .present) a; permanent = k .permanent }
 
-done-by : (forever : Bool) (ps : List Pair) (t t′ : Values) → AllAllowed t → (d : Bool) → allAllowed ps ≡ d →
-    pick d (done (changed forever ps t)) (refused Setting) ≡ done t′ → AllAllowed t′
-done-by forever ps t t′ k true a e = let z : changed forever ps t ≡ t′ = cc in rw z at (changed-allowed forever ps t k a)
-done-by forever ps t t′ k false a e = never (cc)
+-- An accepted list: every pair may be set, and the table is the one with all of them set.
+pub record Accepted (forever : Bool) (reading : Reading) (t t′ : Values) : Type 0 where
+  pub listed : List Pair
+  pub settable : allSettable (t .locked) listed ≡ true
+  pub is : t′ ≡ changed forever listed t
 
--- An accepted list keeps every value of a table allowed.
-pub accepted-allowed : (forever : Bool) (reading : Reading) (t t′ : Values) → AllAllowed t → setPairs forever reading t ≡ done t′ → AllAllowed t′
+accepted-by : (forever : Bool) (ps : List Pair) (t t′ : Values) (d : Bool) → allSettable (t .locked) ps ≡ d →
+    pick d (done (changed forever ps t)) (refused Setting) ≡ done t′ → Accepted forever (pairs ps) t t′
+accepted-by forever ps t t′ true a e = let z : changed forever ps t ≡ t′ = cc in record { listed = ps; settable = a; is = sym z }
+accepted-by forever ps t t′ false a e = never (cc)
+
+pub accepted : (forever : Bool) (reading : Reading) (t t′ : Values) → setPairs forever reading t ≡ done t′ → Accepted forever reading t t′
 unfolding setPairs
-accepted-allowed forever wrongLength t t′ k e = never (cc)
-accepted-allowed forever (pairs ps) t t′ k e = done-by forever ps t t′ k (allAllowed ps) refl e
+accepted forever wrongLength t t′ e = never (cc)
+accepted forever (pairs ps) t t′ e = accepted-by forever ps t t′ (allSettable (t .locked) ps) refl e
 
--- The tables that are made from the defaults by accepted lists and power-ups.
-pub data Reached : Values → Type 0 where
-  at-first : Reached defaults
-  by-list : {t t′ : Values} (forever : Bool) (reading : Reading) → Reached t → setPairs forever reading t ≡ done t′ → Reached t′
-  by-power-up : {t : Values} → Reached t → Reached (powerUp t)
+-- An accepted list, PARAM_DEFAULTS and power-up keep every value of a table allowed.
+pub accepted-allowed : (forever : Bool) (reading : Reading) (t t′ : Values) → AllAllowed t → setPairs forever reading t ≡ done t′ → AllAllowed t′
+accepted-allowed forever reading t t′ k e =
+    let a = accepted forever reading t t′ e in
+    rw (a .is) (changed-allowed forever (a .listed) t k (a .settable))
 
--- Every value in such a table is allowed.
-pub reached-allowed : {t : Values} → Reached t → AllAllowed t
-unfolding defaults powerUp
-reached-allowed at-first = record { present = defaults-allowed; permanent = defaults-allowed }
-reached-allowed (by-list {t} {t′} forever reading r e) = accepted-allowed forever reading t t′ (reached-allowed r) e
-reached-allowed (by-power-up r) = let k = reached-allowed r in record { present = k .permanent; permanent = k .permanent }
+pub set-defaults-allowed : (t : Values) → AllAllowed t → AllAllowed (setDefaults t)
+unfolding setDefaults
+set-defaults-allowed t k =
+    record { present = restored-allowed (t .locked) (t .present) (k .present); permanent = restored-allowed (t .locked) (t .permanent) (k .permanent) }
+
+pub powered-up-allowed : (t : Values) → AllAllowed t → AllAllowed (powerUp t)
+unfolding powerUp
+powered-up-allowed t k = record { present = k .permanent; permanent = k .permanent }
+
+pub house-allowed : AllAllowed defaults
+unfolding defaults
+house-allowed = record { present = defaults-allowed; permanent = defaults-allowed }
+
+-- The tables that are made from such a start by accepted lists, PARAM_DEFAULTS and power-ups.
+pub data Reached (Start : Values → Type 0) : Values → Type 0 where
+  at-first : {t : Values} → Start t → Reached Start t
+  by-list : {t t′ : Values} (forever : Bool) (reading : Reading) → Reached Start t → setPairs forever reading t ≡ done t′ → Reached Start t′
+  by-defaults : {t : Values} → Reached Start t → Reached Start (setDefaults t)
+  by-power-up : {t : Values} → Reached Start t → Reached Start (powerUp t)
+
+-- Every value in such a table is allowed where it is in every start.
+pub reached-allowed : {Start : Values → Type 0} → ((t : Values) → Start t → AllAllowed t) → {t : Values} → Reached Start t → AllAllowed t
+reached-allowed first (at-first {t} s) = first t s
+reached-allowed first (by-list {t} {t′} forever reading r e) = accepted-allowed forever reading t t′ (reached-allowed first r) e
+reached-allowed first (by-defaults {t} r) = set-defaults-allowed t (reached-allowed first r)
+reached-allowed first (by-power-up {t} r) = powered-up-allowed t (reached-allowed first r)
+
+-- ---- what is locked is kept
+
+-- The locks are the same; the parameter of each locked row has the permanent value that it had, and where its present value was equal to it, still has both.
+pub record KeepsLocked (t t′ : Values) : Type 0 where
+  pub locks-same : t′ .locked ≡ t .locked
+  pub permanent-same : (i : ℕ) → i < parameterCount → getD (t .locked) i false ≡ true → getD (t′ .permanent) i 0 ≡ getD (t .permanent) i 0
+  pub present-same :
+      (i : ℕ) → i < parameterCount → getD (t .locked) i false ≡ true → getD (t .present) i 0 ≡ getD (t .permanent) i 0 → getD (t′ .present) i 0 ≡ getD (t .permanent) i 0
+
+pub keeps-same : (t : Values) → KeepsLocked t t
+keeps-same t = record { locks-same = refl; permanent-same = λ i h l. refl; present-same = λ i h l e. e }
+
+pub keeps-then : {a b d : Values} → KeepsLocked a b → KeepsLocked b d → KeepsLocked a d
+keeps-then {a} {b} {d} k m =
+    let still : (i : ℕ) → getD (a .locked) i false ≡ true → getD (b .locked) i false ≡ true = λ i l. rw (k .locks-same) l in
+    record {
+      locks-same = m .locks-same ∙ k .locks-same;
+      permanent-same = λ i h l. m .permanent-same i h (still i l) ∙ k .permanent-same i h l;
+      present-same = λ i h l e.
+          m .present-same i h (still i l) (k .present-same i h l e ∙ sym (k .permanent-same i h l)) ∙ k .permanent-same i h l;
+    }
+
+settable-elsewhere : (locked : List Bool) (p : Pair) (i : ℕ) → settable locked p ≡ true → getD locked i false ≡ true → (i ≡ placeOf (p .number) → ⊥)
+unfolding settable lockedIn
+settable-elsewhere locked p i s l e =
+    let free = not-true (getD locked (placeOf (p .number)) false) (both-left (not (lockedIn locked (p .number))) (allowed (p .number) (p .value)) s) in
+    let here : getD locked (placeOf (p .number)) false ≡ true = rw (← e) l in
+    never (cc)
+
+set-all-locked : (locked : List Bool) (ps : List Pair) (values : List ℕ) (i : ℕ) → allSettable locked ps ≡ true → getD locked i false ≡ true →
+    getD (setAll ps values) i 0 ≡ getD values i 0
+unfolding setAll allSettable
+set-all-locked locked [] values i a l = refl
+set-all-locked locked (p ∷ ps) values i a l =
+    set-all-locked locked ps (set values (placeOf (p .number)) (p .value)) i (both-right (settable locked p) (allSettable locked ps) a) l
+    ∙ getD-set-other values (placeOf (p .number)) i (p .value) 0 (settable-elsewhere locked p i (both-left (settable locked p) (allSettable locked ps) a) l)
+
+changed-keeps : (forever : Bool) (ps : List Pair) (t : Values) → allSettable (t .locked) ps ≡ true → KeepsLocked t (changed forever ps t)
+unfolding changed
+changed-keeps true ps t a =
+    record {
+      locks-same = refl;
+      permanent-same = λ i h l. set-all-locked (t .locked) ps (t .permanent) i a l;
+      present-same = λ i h l e. set-all-locked (t .locked) ps (t .present) i a l ∙ e;
+    }
+changed-keeps false ps t a =
+    record { locks-same = refl; permanent-same = λ i h l. refl; present-same = λ i h l e. set-all-locked (t .locked) ps (t .present) i a l ∙ e }
+
+-- An accepted list, PARAM_DEFAULTS and power-up keep what is locked.
+pub accepted-keeps : (forever : Bool) (reading : Reading) (t t′ : Values) → setPairs forever reading t ≡ done t′ → KeepsLocked t t′
+accepted-keeps forever reading t t′ e =
+    let a = accepted forever reading t t′ e in
+    rw (a .is) (changed-keeps forever (a .listed) t (a .settable))
+
+restored-locked : (locked : List Bool) (values : List ℕ) (i : ℕ) → i < parameterCount → getD locked i false ≡ true →
+    getD (restored locked values (defaultsOf rows)) i 0 ≡ getD values i 0
+restored-locked locked values i h l =
+    restored-at locked values (defaultsOf rows) i (let z = length-defaults rows ∙ many in omega arith) ∙ simp l
+
+pub set-defaults-keeps : (t : Values) → KeepsLocked t (setDefaults t)
+unfolding setDefaults
+set-defaults-keeps t =
+    record {
+      locks-same = refl;
+      permanent-same = λ i h l. restored-locked (t .locked) (t .permanent) i h l;
+      present-same = λ i h l e. restored-locked (t .locked) (t .present) i h l ∙ e;
+    }
+
+pub power-up-keeps : (t : Values) → KeepsLocked t (powerUp t)
+unfolding powerUp
+power-up-keeps t = record { locks-same = refl; permanent-same = λ i h l. refl; present-same = λ i h l e. refl }
+
+-- With all of them locked PARAM_DEFAULTS changes no value.
+pub all-locked : (t : Values) (i : ℕ) → i < parameterCount → getD (t .locked) i false ≡ true →
+    (getD (setDefaults t .present) i 0 ≡ getD (t .present) i 0) × (getD (setDefaults t .permanent) i 0 ≡ getD (t .permanent) i 0)
+unfolding setDefaults
+all-locked t i h l = (restored-locked (t .locked) (t .present) i h l, restored-locked (t .locked) (t .permanent) i h l)
+
+-- Where it is not locked, PARAM_DEFAULTS sets both values to the house default.
+pub unlocked-default : (t : Values) (i : ℕ) → i < parameterCount → getD (t .locked) i false ≡ false →
+    (getD (setDefaults t .present) i 0 ≡ getD (defaultsOf rows) i 0) × (getD (setDefaults t .permanent) i 0 ≡ getD (defaultsOf rows) i 0)
+unfolding setDefaults
+unlocked-default t i h l =
+    let z = length-defaults rows ∙ many in
+    (restored-at (t .locked) (t .present) (defaultsOf rows) i (omega arith) ∙ simp l, restored-at (t .locked) (t .permanent) (defaultsOf rows) i (omega arith) ∙ simp l)
 
 -- ---- what an answer names
 

@@ -6,10 +6,13 @@ use mathlib.Core.List.{List}
 use Rattle.table.specs.declared.Table.{Table}
 use Rattle.table.specs.declared.Changed.{Changed}
 use Rattle.table.specs.declared.Written.{Written}
-use Rattle.table.specs.Promises.{Defaults, PowerUp, Sets, SendLengthAllowed, RequestLengthAllowed, Value, Allowed, Answers}
+use Rattle.table.specs.Promises.{Defaults, SetsDefaults, PowerUp, Sets, SendLengthAllowed, RequestLengthAllowed, Value, Locked, Allowed, Answers}
 
 pub defaults-unique : {r r′ : Table} → Defaults r → Defaults r′ → r ≡ r′
 defaults-unique p q = p .is ∙ sym (q .is)
+
+pub set-defaults-unique : {t r r′ : Table} → SetsDefaults t r → SetsDefaults t r′ → r ≡ r′
+set-defaults-unique p q = p .is ∙ sym (q .is)
 
 pub power-up-unique : {t r r′ : Table} → PowerUp t r → PowerUp t r′ → r ≡ r′
 power-up-unique p q = p .is ∙ sym (q .is)
@@ -25,6 +28,9 @@ request-length-allowed-unique p q = p .is ∙ sym (q .is)
 
 pub value-unique : {t : Table} {number r r′ : ℕ} → Value t number r → Value t number r′ → r ≡ r′
 value-unique p q = p .is ∙ sym (q .is)
+
+pub locked-unique : {t : Table} {number : ℕ} {r r′ : Bool} → Locked t number r → Locked t number r′ → r ≡ r′
+locked-unique p q = p .is ∙ sym (q .is)
 
 pub allowed-unique : {number value : ℕ} {r r′ : Bool} → Allowed number value r → Allowed number value r′ → r ≡ r′
 allowed-unique p q = p .is ∙ sym (q .is)

@@ -7,8 +7,8 @@ use lib.Dec.{ltb}
 use lib.ListN.{length, getD, set}
 use Rattle.words.specs.Lists.{pick, both, over, overAt}
 use Rattle.packet.specs.declared.Refusal.the-variants as refusal
-use Rattle.table.specs.Rows.{parameterCount, pairsSize, rows, placeOf, triggerAllowed, allowed, defaultsOf}
-use Rattle.table.specs.Table.{Values, Pair, Reading, wrongLength, pairs, readPairs, sendLengthAllowed, requestLengthAllowed, allAllowed, setAll, changed, Outcome, done, refused, setPairs, defaults, powerUp, valueOf, member, askedFor, numbersOf, pairBytes, answerData}
+use Rattle.table.specs.Rows.{parameterCount, pairsSize, rows, placeOf, triggerAllowed, rowAllows, allowed, defaultsOf}
+use Rattle.table.specs.Table.{Values, Pair, Reading, wrongLength, pairs, readPairs, sendLengthAllowed, requestLengthAllowed, lockedIn, settable, allSettable, setAll, changed, Outcome, done, refused, setPairs, defaults, restored, setDefaults, powerUp, valueOf, member, askedFor, numbersOf, pairBytes, answerData}
 use Rattle.table.specs.declared.Table.{Table}
 use Rattle.table.specs.declared.Verdict.the-variants as verdict
 use Rattle.table.specs.declared.Changed.{Changed}
@@ -17,10 +17,10 @@ use Rattle.table.specs.declared.Written.the-variants as written
 
 -- What a table stands for.
 abbrev pub valuesOf : Table → Values
-valuesOf t = record { present = t .present; permanent = t .permanent }
+valuesOf t = record { present = t .present; permanent = t .permanent; locked = t .locked }
 
 abbrev pub tableOf : Values → Table
-tableOf v = record { present = v .present; permanent = v .permanent }
+tableOf v = record { present = v .present; permanent = v .permanent; locked = v .locked }
 
 -- The answers that are enums.
 unfoldable pub changedOf : Table → Outcome → Changed
@@ -29,6 +29,9 @@ changedOf t (refused r) = record { table = t; verdict = verdict.Refused r }
 
 pub record Defaults (r : Table) : Type 0 where
   pub is : r ≡ tableOf defaults
+
+pub record SetsDefaults (t r : Table) : Type 0 where
+  pub is : r ≡ tableOf (setDefaults (valuesOf t))
 
 pub record PowerUp (t r : Table) : Type 0 where
   pub is : r ≡ tableOf (powerUp (valuesOf t))
@@ -45,6 +48,9 @@ pub record RequestLengthAllowed (carried : List ℕ) (r : Bool) : Type 0 where
 pub record Value (t : Table) (number r : ℕ) : Type 0 where
   pub is : r ≡ valueOf (valuesOf t) number
 
+pub record Locked (t : Table) (number : ℕ) (r : Bool) : Type 0 where
+  pub is : r ≡ lockedIn (t .locked) number
+
 pub record Allowed (number value : ℕ) (r : Bool) : Type 0 where
   pub is : r ≡ allowed number value
 
@@ -55,12 +61,18 @@ pub record Answers (t : Table) (asked room : List ℕ) (r : Written) (room′ : 
 
 -- ---- the functions inside
 
-pub record House (r : List ℕ) : Type 0 where
-  pub is : r ≡ defaultsOf rows
+pub record Restores (locked : List Bool) (values r : List ℕ) : Type 0 where
+  pub is : r ≡ restored locked values (defaultsOf rows)
+
+pub record UnlessLocked (locked : Bool) (value default r : ℕ) : Type 0 where
+  pub is : r ≡ pick locked value default
 
 pub record Place (number r : ℕ) : Type 0 where
   pub is : r ≡ placeOf number
   pub most : r ≤ parameterCount
+
+pub record RowAllows (at value : ℕ) (r : Bool) : Type 0 where
+  pub is : r ≡ rowAllows (getD rows at []) value
 
 pub record TriggerAllowed (value : ℕ) (r : Bool) : Type 0 where
   pub is : r ≡ triggerAllowed value
@@ -73,8 +85,11 @@ pairsOf (pairs ps) = ps
 pub record Even (bytes : List ℕ) : Type 0 where
   pub is : length bytes % 2 ≡ 0
 
-pub record Judges (bytes : List ℕ) (r : Bool) : Type 0 where
-  pub is : r ≡ allAllowed (pairsOf (readPairs bytes))
+pub record Settable (t : Table) (number value : ℕ) (r : Bool) : Type 0 where
+  pub is : r ≡ settable (t .locked) (record { number = number; value = value })
+
+pub record Judges (t : Table) (bytes : List ℕ) (r : Bool) : Type 0 where
+  pub is : r ≡ allSettable (t .locked) (pairsOf (readPairs bytes))
 
 -- A value for each parameter.
 pub record Full (values : List ℕ) : Type 0 where
@@ -93,7 +108,7 @@ pub record AsksAll (asked : List ℕ) (r : Bool) : Type 0 where
   pub is : r ≡ member 0xFE asked
 
 abbrev pub showing : List ℕ → Values
-showing values = record { present = values; permanent = [] }
+showing values = record { present = values; permanent = []; locked = [] }
 
 pub record AllPairs (values room : List ℕ) (r : ℕ) (room′ : List ℕ) : Type 0 where
   pub is : r ≡ length (pairBytes (showing values) (numbersOf rows))

@@ -45,9 +45,12 @@ triggerAllowed value = either (eqb value 0) (either (eqb value 2) (either (eqb v
 unfoldable pub rangeAllowed : List ℕ → ℕ → Bool
 rangeAllowed row value = both (leb (getD row 1 0) value) (leb value (getD row 2 0))
 
+-- What a row takes.
+unfoldable pub rowAllows : List ℕ → ℕ → Bool
+rowAllows row value = both (rangeAllowed row value) (either (not (eqb (getD row 0 0) 0x8A)) (triggerAllowed value))
+
 unfoldable pub allowed : ℕ → ℕ → Bool
-allowed number value =
-    both (supported number) (both (rangeAllowed (getD rows (placeOf number) []) value) (either (not (eqb number 0x8A)) (triggerAllowed value)))
+allowed number value = both (supported number) (rowAllows (getD rows (placeOf number) []) value)
 
 -- The house defaults, in the rows' order.
 unfoldable pub defaultsOf : List (List ℕ) → List ℕ

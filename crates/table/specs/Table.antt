@@ -1,19 +1,23 @@
--- §12: present and permanent values, PARAM_SEND, PARAM_DEFAULTS, power-up, and the answer to PARAM_REQUEST.
+-- §12: present and permanent values and locks, PARAM_SEND, PARAM_DEFAULTS, power-up, and the answer to PARAM_REQUEST.
 use Prim.Native.Nat.{ℕ}
 use mathlib.Core.Bool.{Bool, true, false, not}
 use mathlib.Core.List.{List, [], _∷_, _++_}
 use lib.Dec.{eqb, ltb, leb}
-use lib.ListN.{length, getD, drop, set}
+use lib.ListN.{length, getD, drop, set, replicate}
 use Rattle.words.specs.Lists.{pick, both, either}
 use Rattle.packet.specs.Sizes.{dataSize}
 use Rattle.packet.specs.declared.Refusal.{Refusal}
 use Rattle.packet.specs.declared.Refusal.the-variants.{Data, Setting}
-use Rattle.table.specs.Rows.{rows, placeOf, supported, allowed, defaultsOf}
+use Rattle.table.specs.Rows.{parameterCount, rows, placeOf, supported, allowed, defaultsOf}
 
--- Each parameter has a present and a permanent value, in the rows' order.
+-- Each parameter has a present and a permanent value, and is locked or not, in the rows' order.
 pub record Values : Type 0 where
   pub present : List ℕ
   pub permanent : List ℕ
+  pub locked : List Bool
+
+unfoldable pub lockedIn : List Bool → ℕ → Bool
+lockedIn locked number = getD locked (placeOf number) false
 
 -- A parameter and the value asked for it.
 pub record Pair : Type 0 where
@@ -46,9 +50,13 @@ sendLengthAllowed d = both (ltb 0 (length d)) (isRead (readPairs (drop 1 d)))
 unfoldable pub requestLengthAllowed : List ℕ → Bool
 requestLengthAllowed d = both (ltb 0 (length d)) (leb (length d) dataSize)
 
-unfoldable pub allAllowed : List Pair → Bool
-allAllowed [] = true
-allAllowed (p ∷ ps) = both (allowed (p .number) (p .value)) (allAllowed ps)
+-- A pair that may be set: its parameter is not locked and takes the value.
+unfoldable pub settable : List Bool → Pair → Bool
+settable locked p = both (not (lockedIn locked (p .number))) (allowed (p .number) (p .value))
+
+unfoldable pub allSettable : List Bool → List Pair → Bool
+allSettable locked [] = true
+allSettable locked (p ∷ ps) = both (settable locked p) (allSettable locked ps)
 
 -- Of a number named twice the later value holds.
 unfoldable pub setAll : List Pair → List ℕ → List ℕ
@@ -57,7 +65,8 @@ setAll (p ∷ ps) values = setAll ps (set values (placeOf (p .number)) (p .value
 
 -- Without bit 3 only present values change; with it both do.
 unfoldable pub changed : Bool → List Pair → Values → Values
-changed forever ps t = record { present = setAll ps (t .present); permanent = pick forever (setAll ps (t .permanent)) (t .permanent) }
+changed forever ps t =
+    record { present = setAll ps (t .present); permanent = pick forever (setAll ps (t .permanent)) (t .permanent); locked = t .locked }
 
 -- What becomes of a list of settings: the table, or the refusal that leaves it as it was.
 pub data Outcome : Type 0 where
@@ -66,14 +75,31 @@ pub data Outcome : Type 0 where
 
 unfoldable pub setPairs : Bool → Reading → Values → Outcome
 setPairs forever wrongLength t = refused Data
-setPairs forever (pairs ps) t = pick (allAllowed ps) (done (changed forever ps t)) (refused Setting)
+setPairs forever (pairs ps) t = pick (allSettable (t .locked) ps) (done (changed forever ps t)) (refused Setting)
 
--- PARAM_DEFAULTS sets both; power-up copies permanent to present.
+-- The house defaults, with nothing locked.
+abbrev pub noLocks : List Bool
+noLocks = replicate parameterCount false
+
 unfoldable pub defaults : Values
-defaults = record { present = defaultsOf rows; permanent = defaultsOf rows }
+defaults = record { present = defaultsOf rows; permanent = defaultsOf rows; locked = noLocks }
+
+-- Values with each default in its place, but where a parameter is locked the value it had.
+unfoldable pub restored : List Bool → List ℕ → List ℕ → List ℕ
+restored locked values [] = []
+restored locked values (d ∷ ds) = pick (getD locked 0 false) (getD values 0 0) d ∷ restored (drop 1 locked) (drop 1 values) ds
+
+-- PARAM_DEFAULTS sets both values and passes over what is locked; power-up copies permanent to present. Neither changes a lock.
+unfoldable pub setDefaults : Values → Values
+setDefaults t =
+    record {
+      present = restored (t .locked) (t .present) (defaultsOf rows);
+      permanent = restored (t .locked) (t .permanent) (defaultsOf rows);
+      locked = t .locked;
+    }
 
 unfoldable pub powerUp : Values → Values
-powerUp t = record { present = t .permanent; permanent = t .permanent }
+powerUp t = record { present = t .permanent; permanent = t .permanent; locked = t .locked }
 
 unfoldable pub valueOf : Values → ℕ → ℕ
 valueOf t number = getD (t .present) (placeOf number) 0

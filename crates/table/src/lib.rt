@@ -1,10 +1,10 @@
-// The parameter table: nine settings with a present and a permanent value each.
+// The parameter table: nine settings with a present and a permanent value each, some of them locked.
 use packet::Refusal;
 ghost use Prim.Native.Nat.{_+_, _*_, _≤_, _<_};
 ghost use mathlib.Core.Path.{_≡_};
 ghost use lib.ListN.{length};
 ghost use Rattle.table.specs.Rows.{parameterCount};
-ghost use Rattle.table.specs.Promises.{Defaults, PowerUp, Sets, SendLengthAllowed, RequestLengthAllowed, Value, Allowed, Answers, House, Place, TriggerAllowed, Even, Judges, Full, Puts, PutsAll, Changes, AsksAll, AllPairs, AskedPairs, Fits, Asks};
+ghost use Rattle.table.specs.Promises.{Defaults, SetsDefaults, PowerUp, Sets, SendLengthAllowed, RequestLengthAllowed, Value, Locked, Allowed, Answers, Restores, UnlessLocked, Place, TriggerAllowed, RowAllows, Even, Settable, Judges, Full, Puts, PutsAll, Changes, AsksAll, AllPairs, AskedPairs, Fits, Asks};
 
 // How many parameters there are.
 pub const PARAMETER_COUNT: usize = 9;
@@ -12,7 +12,7 @@ pub const PARAMETER_COUNT: usize = 9;
 pub const PAIRS_SIZE: usize = 1 + 2 * PARAMETER_COUNT;
 
 // The allowed settings: parameter, lowest, highest, house default.
-const SETTINGS: [[u8; 4]; PARAMETER_COUNT] = [
+pub const SETTINGS: [[u8; 4]; PARAMETER_COUNT] = [
     [0x80, 0, 1, 0],
     [0x89, 0, 99, 10],
     [0x8A, 0, 8, 0],
@@ -24,10 +24,11 @@ const SETTINGS: [[u8; 4]; PARAMETER_COUNT] = [
     [0xEE, 0, 1, 1],
 ];
 
-// Present and permanent values, in the order of the settings.
+// Present and permanent values and which of them are locked, in the order of the settings.
 pub struct Table {
     pub present: [u8; PARAMETER_COUNT],
     pub permanent: [u8; PARAMETER_COUNT],
+    pub locked: [bool; PARAMETER_COUNT],
 }
 
 // What became of a list of settings.
@@ -47,27 +48,51 @@ pub enum Written {
     Refused(Refusal),
 }
 
-// The house defaults, present and permanent.
+// The house defaults, present and permanent, with nothing locked.
 pub fn defaults() -> Table
     ensures { λ r. ⌜ Defaults r ⌝ }
 {
-    let values = house();
+    let blank = Table {
+        present: [0; PARAMETER_COUNT],
+        permanent: [0; PARAMETER_COUNT],
+        locked: [false; PARAMETER_COUNT],
+    };
+    set_defaults(blank)
+}
+
+// PARAM_DEFAULTS: every parameter that is not locked to its house default, present and permanent.
+pub fn set_defaults(table: Table) -> Table
+    ensures { λ r. ⌜ SetsDefaults table r ⌝ }
+{
+    let locked = table.locked;
+    let present = table.present;
+    let permanent = table.permanent;
     Table {
-        present: values,
-        permanent: values,
+        present: restored(locked, present),
+        permanent: restored(locked, permanent),
+        locked,
     }
 }
 
-fn house() -> [u8; PARAMETER_COUNT]
-    ensures { λ r. ⌜ House r ⌝ }
+fn restored(locked: [bool; PARAMETER_COUNT], values: [u8; PARAMETER_COUNT]) -> [u8; PARAMETER_COUNT]
+    ensures { λ r. ⌜ Restores locked values r ⌝ }
 {
-    let mut values = [0u8; PARAMETER_COUNT];
+    let mut next = [0u8; PARAMETER_COUNT];
     let mut i = 0;
     while i < PARAMETER_COUNT {
-        values[i] = SETTINGS[i][3];
+        next[i] = unless_locked(locked[i], values[i], SETTINGS[i][3]);
         i += 1;
     }
-    values
+    next
+}
+
+fn unless_locked(locked: bool, value: u8, default: u8) -> u8
+    ensures { λ r. ⌜ UnlessLocked locked value default r ⌝ }
+{
+    if locked {
+        return value;
+    }
+    default
 }
 
 // Power-up copies permanent to present.
@@ -75,13 +100,15 @@ pub fn power_up(table: Table) -> Table
     ensures { λ r. ⌜ PowerUp table r ⌝ }
 {
     let values = table.permanent;
+    let locked = table.locked;
     Table {
         present: values,
         permanent: values,
+        locked,
     }
 }
 
-// Sets a list of pairs, number and value, all or nothing: 7 for a number with nothing after it, then 9.
+// Sets a list of pairs, number and value, all or nothing: 7 for a number with nothing after it, then 9, for a locked one too.
 pub fn set(table: Table, pairs: &[u8], permanent: bool) -> Changed
     ensures { λ r. ⌜ Sets table (now (pairs .entry)) permanent r ⌝ }
 {
@@ -91,7 +118,7 @@ pub fn set(table: Table, pairs: &[u8], permanent: bool) -> Changed
             verdict: Verdict::Refused(Refusal::Data),
         };
     }
-    if all_allowed(pairs) {
+    if all_settable(table, pairs) {
         return change(table, pairs, permanent);
     }
     Changed {
@@ -123,6 +150,7 @@ fn change(table: Table, pairs: &[u8], permanent: bool) -> Changed
     ensures { λ r. ⌜ Changes table (now (pairs .entry)) permanent r ⌝ }
 {
     let values = table.present;
+    let locked = table.locked;
     let present = put_all(values, pairs);
     if permanent {
         let lasting = table.permanent;
@@ -130,6 +158,7 @@ fn change(table: Table, pairs: &[u8], permanent: bool) -> Changed
             table: Table {
                 present,
                 permanent: put_all(lasting, pairs),
+                locked,
             },
             verdict: Verdict::Done,
         };
@@ -139,6 +168,7 @@ fn change(table: Table, pairs: &[u8], permanent: bool) -> Changed
         table: Table {
             present,
             permanent: kept,
+            locked,
         },
         verdict: Verdict::Done,
     }
@@ -154,6 +184,18 @@ pub fn value(table: Table, number: u8) -> u8
         return values[at];
     }
     0
+}
+
+// Whether a parameter is locked; one that is not supported is not.
+pub fn locked(table: Table, number: u8) -> bool
+    ensures { λ r. ⌜ Locked table number r ⌝ }
+{
+    let at = place(number);
+    let locks = table.locked;
+    if at < PARAMETER_COUNT {
+        return locks[at];
+    }
+    false
 }
 
 // The data of the PARAM_SEND that answers a request: beep byte FFh, then the pairs. 13 for room under PAIRS_SIZE.
@@ -240,20 +282,35 @@ fn ask(
     at
 }
 
-// Whether every pair is allowed.
-fn all_allowed(pairs: &[u8]) -> bool
+// Whether every pair may be set.
+fn all_settable(table: Table, pairs: &[u8]) -> bool
     requires { ⌜ Even (now pairs) ⌝ }
-    ensures { λ r. ⌜ Judges (now (pairs .entry)) r ⌝ }
+    ensures { λ r. ⌜ Judges table (now (pairs .entry)) r ⌝ }
 {
     let mut i = 0;
     while i < pairs.len() {
-        if allowed(pairs[i], pairs[i + 1]) {
+        if settable(table, pairs[i], pairs[i + 1]) {
             i += 2;
         } else {
             return false; // the whole list
         }
     }
     true
+}
+
+// Whether the parameter is not locked and takes the value.
+fn settable(table: Table, number: u8, value: u8) -> bool
+    ensures { λ r. ⌜ Settable table number value r ⌝ }
+{
+    let at = place(number);
+    let locks = table.locked;
+    if at < PARAMETER_COUNT {
+        if locks[at] {
+            return false;
+        }
+        return row_allows(at, value);
+    }
+    false
 }
 
 // The values with every pair set; of a number named twice the later value holds.
@@ -286,18 +343,27 @@ pub fn allowed(number: u8, value: u8) -> bool
 {
     let at = place(number);
     if at < PARAMETER_COUNT {
-        if value < SETTINGS[at][1] {
-            return false;
-        }
-        if SETTINGS[at][2] < value {
-            return false;
-        }
-        if number == 0x8A {
-            return trigger_allowed(value);
-        }
-        return true;
+        return row_allows(at, value);
     }
     false
+}
+
+// Whether the parameter at this place takes the value.
+fn row_allows(at: usize, value: u8) -> bool
+    requires { ⌜ at < parameterCount ⌝ }
+    ensures { λ r. ⌜ RowAllows at value r ⌝ }
+{
+    let row = SETTINGS[at];
+    if value < row[1] {
+        return false;
+    }
+    if row[2] < value {
+        return false;
+    }
+    if row[0] == 0x8A {
+        return trigger_allowed(value);
+    }
+    true
 }
 
 // 8Ah takes only 0, 2, 4, 7, 8.

@@ -73,13 +73,14 @@ fn numbers(t: Tally) -> Tally {
         packet::number(Refusal::Setting),
         packet::number(Refusal::Barred),
         packet::number(Refusal::Start),
+        packet::number(Refusal::Form),
         packet::number(Refusal::Room),
     ];
     listed(
         t,
         b"NUMBERS",
         &found,
-        b"\x01\x02\x03\x04\x05\x06\x07\x08\x09\x0A\x0B\x0D",
+        b"\x01\x02\x03\x04\x05\x06\x07\x08\x09\x0A\x0B\x0C\x0D",
     )
 }
 
@@ -96,13 +97,14 @@ fn causes(t: Tally) -> Tally {
         packet::cause(Refusal::Setting),
         packet::cause(Refusal::Barred),
         packet::cause(Refusal::Start),
+        packet::cause(Refusal::Form),
         packet::cause(Refusal::Room),
     ];
     listed(
         t,
         b"CAUSES",
         &found,
-        b"\x01\x01\x01\x02\x02\x02\x02\x06\x06\x06\x00\x00",
+        b"\x01\x01\x01\x02\x02\x02\x02\x06\x06\x06\x00\x00\x00",
     )
 }
 

@@ -148,6 +148,17 @@ part-over a k q room part h l e =
     (append-assoc q (drop (length q) (take k rest)) (drop k rest)
     ∙ ap (λ (r : List ℕ). q ++ r) (sym (drop-append-le (length q) (take k rest) (drop k rest) (omega arith)) ∙ ap (λ (r : List ℕ). drop (length q) r) (take-append-drop k rest))))
 
+-- What was lent from a place on has come back.
+abbrev pub back : ℕ → List ℕ → List ℕ → List ℕ
+back a part room = take a room ++ (part ++ drop (length room - a) (drop a room))
+
+-- A part behind the one before it.
+pub behind : (a : ℕ) (p q room room₁ part : List ℕ) → length p ≡ a → a + length q ≤ length room → room₁ ≡ over p room →
+    part ≡ over q (take (length room₁ - a) (drop a room₁)) → back a part room₁ ≡ over (p ++ q) room
+behind a p q room room₁ part e h k m =
+    let long : length room₁ ≡ length room = ap length k ∙ length-over p room (omega arith) in
+    part-over a (length room₁ - a) q room₁ part (omega arith) (omega arith) m ∙ rw k (over-behind a p q room e)
+
 -- A copy that the room holds whole.
 pub copied-over : {from room room′ : List ℕ} → length from ≤ length room → Copied from room room′ → room′ ≡ over from room
 copied-over {from} {room} h k = k .is ∙ ap (λ (p : List ℕ). over p room) (take-all (length room) from h)

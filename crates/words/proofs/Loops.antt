@@ -7,7 +7,7 @@ use native.Mathlib.Nat.{le-antisymm}
 use native.Mathlib.Numerals.{add-one}
 use native.Mathlib.Omega.{arith}
 use lib.ListN.{length, getD, take, drop, set, length-set}
-use lib.Seq.{take-all, take-length, drop-length, length-take-le, drop-cons, take-suc, set-at, append-snoc}
+use lib.Seq.{take-all, take-length, drop-length, length-take-le, drop-cons, take-suc, take-suc-set, set-at, append-snoc}
 use Rattle.words.specs.Lists.{over, Over, Copied, sameBytes, Compared}
 use Rattle.words.proofs.Lists.{same-step, same-stop, other-length}
 
@@ -73,3 +73,23 @@ alike-all {a} {b} {i} k h =
     let e : i ≡ length a = le-antisymm (k .at) h in
     let f : i ≡ length b = e ∙ k .long in
     record { is = sym (k .rest ∙ (ap (λ (n : ℕ). sameBytes (drop n a) (drop i b)) e ∙ (ap (λ (n : ℕ). sameBytes (drop (length a) a) (drop n b)) f ∙ simp drop-length))) }
+
+-- An array that is filled place by place: its first i elements are those of the list that it becomes.
+pub record Filling {A : Type 0} (whole filled : List A) (i : ℕ) : Type 0 where
+  pub at : i ≤ length whole
+  pub long : length filled ≡ length whole
+  pub is : take i filled ≡ take i whole
+
+pub filled-none : {A : Type 0} {whole filled : List A} → length filled ≡ length whole → Filling whole filled 0
+filled-none e = record { at = omega arith; long = e; is = refl }
+
+pub filled-more : {A : Type 0} {whole filled : List A} {i : ℕ} (d x : A) → Filling whole filled i → i < length whole → x ≡ getD whole i d → Filling whole (set filled i x) (i + 1)
+filled-more {whole = whole} {filled} {i} d x k h e =
+    record {
+      at = omega arith;
+      long = length-set filled i x ∙ k .long;
+      is = rw (add-one i, take-suc-set filled i x (omega (arith, k .long)), k .is, e) (sym (take-suc whole i d h));
+    }
+
+pub filled-all : {A : Type 0} {whole filled : List A} {i : ℕ} → Filling whole filled i → length whole ≤ i → filled ≡ whole
+filled-all {whole = whole} {filled} {i} k h = sym (take-all i filled (omega (arith, k .long))) ∙ (k .is ∙ take-all i whole h)

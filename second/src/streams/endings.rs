@@ -3,7 +3,7 @@
 pub type Endings = &'static [&'static [u8]];
 
 /// Wrong characters, lone digits, and the reader's own signs.
-pub const HUB_ENDINGS: [&[u8]; 23] = [
+pub const HUB_ENDINGS: [&[u8]; 25] = [
     b"",
     b"\n",
     b"\r\n",
@@ -14,6 +14,8 @@ pub const HUB_ENDINGS: [&[u8]; 23] = [
     b"T",
     b"P",
     b"S 1B 38 ;",
+    b"W",
+    b"L ;",
     b";",
     b"0",
     b"f",
@@ -29,7 +31,8 @@ pub const HUB_ENDINGS: [&[u8]; 23] = [
     b"@`",
 ];
 
-pub const READER_ENDINGS: [&[u8]; 31] = [
+/// A form's token not ended, or with something else inside, too.
+pub const READER_ENDINGS: [&[u8]; 52] = [
     b"",
     b"\n",
     b"\r\n",
@@ -61,6 +64,27 @@ pub const READER_ENDINGS: [&[u8]; 31] = [
     b"S 1B 3",
     b"S 1B\t;",
     b"3S 1B ;",
+    b"w",
+    b"l",
+    b"W",
+    b"WW",
+    b"W ;",
+    b"0W",
+    b"L",
+    b"L 01",
+    b"L 0",
+    b"L ;",
+    b"L;",
+    b"L 01 09;",
+    b"L\r\n01\n;",
+    b"L 01 ; ;",
+    b"L 0 1 ;",
+    b"L 01\t;",
+    b"L 01 . ;",
+    b"L 01 W ;",
+    b"L L 01 ;",
+    b"S L 1B ;",
+    b"3L 01 ;",
 ];
 
 /// Desk's own token not ended, with too few or too many pairs, or with something else inside; and later requests' ones.
@@ -132,9 +156,9 @@ pub const DESK_READER_ENDINGS: [&[u8]; 36] = [
     b"S 1B U ;",
     b"S 1B ; ;",
     b"S ;",
-    b"W",
-    b"L 00 ;",
-    b"L ;",
+    b"K W 00 18 ;",
+    b"L K 01 ;",
+    b"L 01 U ;",
     b"[ 03 ]",
     b"3K 00 18 ;",
 ];

@@ -1,8 +1,11 @@
-//! What may come to a reader's end: commands, answers, and the reader's own starts, time-outs and power-ups.
+//! What may come to a reader's end: commands, answers, and the reader's own starts, time-outs, power-ups and saved
+//! sets.
 
 use super::damage::{contents, cut, damaged};
+use super::sets::{self, bad_value, good_value};
 use super::{Hand, Line, Stream};
 use crate::dice::Dice;
+use crate::form;
 use crate::framer::{Framer, LineEvent};
 use crate::hub::LONGEST_MESSAGE;
 use crate::packet::*;
@@ -15,6 +18,9 @@ const UNSUPPORTED: [u8; 17] =
     [0x00, 0x01, 0x7F, 0x81, 0x88, 0x8B, 0x9A, 0x9D, 0xA0, 0xEC, 0xEF, 0xF0, 0xF1, 0xF4, 0xF8, 0xFD, 0xFF];
 const PLAIN: [u8; 7] = [PARAM_DEFAULTS, START_SESSION, STOP_SESSION, SCAN_ENABLE, SCAN_DISABLE, AIM_ON, AIM_OFF];
 
+/// How many forms are kept, to be loaded again.
+const SAVED: usize = 4;
+
 pub struct FromHost {
     dice: Dice,
     hand: Hand,
@@ -22,6 +28,8 @@ pub struct FromHost {
     watch: ReaderWatch,
     /// How many answers of a hundred are ACKs, drawn anew for each message.
     kindness: usize,
+    /// Forms saved not long ago.
+    saved: Vec<Vec<u8>>,
 }
 
 impl Line for FromHost {
@@ -107,11 +115,11 @@ impl FromHost {
     pub fn new(seed: u64, desk: bool) -> FromHost {
         let mut dice = Dice::new(seed);
         let hand = Hand::new(dice.next(), desk.then_some(ANSWER_ROOM));
-        FromHost { dice, hand, reader: Reader::new(), watch: ReaderWatch::new(desk), kindness: 50 }
+        FromHost { dice, hand, reader: Reader::new(), watch: ReaderWatch::new(desk), kindness: 50, saved: Vec::new() }
     }
 
     fn step_on_commands(&mut self) {
-        match self.dice.weigh(&[12, 8, 6, 22, 12, 8, 14, 4, 5, 8, 2, 1]) {
+        match self.dice.weigh(&[12, 8, 6, 22, 12, 8, 14, 4, 5, 8, 2, 6, 1]) {
             0 => self.plain_command(),
             1 => self.beep(),
             2 => self.led(),
@@ -123,6 +131,7 @@ impl FromHost {
             8 => self.any_packet(),
             9 => self.disturb(),
             10 => self.power_up(),
+            11 => self.sets(),
             _ => self.pair_at_an_edge(),
         }
     }
@@ -150,6 +159,9 @@ impl FromHost {
         }
         let last = self.last_accepted();
         self.power_up_alone();
+        if self.dice.chance(30) {
+            self.save();
+        }
         self.resend_forgotten(last);
     }
 
@@ -293,34 +305,22 @@ impl FromHost {
 
     // Parameters.
 
-    fn good_value(&mut self, row: [u8; 4]) -> u8 {
-        let [number, low, high, default] = row;
-        if number == TRIGGER {
-            return self.dice.pick(&[0, 2, 4, 7, 8]);
-        }
-        let inside = self.dice.between(usize::from(low), usize::from(high)) as u8;
-        self.dice.pick(&[low, high, default, inside])
-    }
-
     fn good_pair(&mut self) -> [u8; 2] {
         let mut row = self.dice.pick(&ROWS);
         if row[0] == ACK_NAK && self.dice.chance(60) {
             // 9Fh has a step of its own; drawn here as often as the others it would be off too much.
             row = ROWS[0];
         }
-        [row[0], self.good_value(row)]
+        [row[0], good_value(&mut self.dice, row)]
     }
 
-    /// Just outside a range, far outside, a trigger between, or a number beside the nine.
+    /// A value that is not allowed, or a number beside the nine.
     fn bad_pair(&mut self) -> [u8; 2] {
-        let [number, low, high, _] = self.dice.pick(&ROWS);
-        match self.dice.below(4) {
-            0 => [number, high + 1],
-            1 if low > 0 => [number, low - 1],
-            1 => [TRIGGER, self.dice.pick(&[1, 3, 5, 6, 9])],
-            2 => [number, self.dice.between(usize::from(high) + 1, 255) as u8],
-            _ => [self.dice.pick(&UNSUPPORTED), self.dice.pick(&[0, 1, 255])],
+        if self.dice.chance(25) {
+            return [self.dice.pick(&UNSUPPORTED), self.dice.pick(&[0, 1, 255])];
         }
+        let row = self.dice.pick(&ROWS);
+        [row[0], bad_value(&mut self.dice, row)]
     }
 
     fn beep_byte(&mut self) -> u8 {
@@ -364,7 +364,7 @@ impl FromHost {
         let second = self.dice.between(first + 1, pairs - 1);
         for pair in [first, second] {
             data[1 + 2 * pair] = row[0];
-            data[2 + 2 * pair] = self.good_value(row);
+            data[2 + 2 * pair] = good_value(&mut self.dice, row);
         }
         if self.dice.chance(20) {
             data[2 + 2 * first] = row[2] + 1;
@@ -395,6 +395,11 @@ impl FromHost {
         if on && self.dice.chance(35) {
             // It is to be on more than off.
             return self.plain_command();
+        }
+        if !on && self.reader.table().locked(ACK_NAK) && self.dice.chance(60) {
+            // Only another set can turn it on.
+            let set = sets::free(&mut self.dice);
+            return self.load(&form::save(&set));
         }
         let mut data = vec![self.beep_byte(), ACK_NAK, u8::from(!on)];
         if self.dice.chance(20) {
@@ -433,6 +438,123 @@ impl FromHost {
             data[at] = ALL;
         }
         self.command(PARAM_REQUEST, &data);
+    }
+
+    // Saved sets.
+
+    pub fn save(&mut self) {
+        self.hand.pen.aside(b'W');
+        let form = self.reader.save();
+        self.watch.save(ReaderLook::at(&self.reader), &form);
+        if self.saved.len() == SAVED {
+            self.saved.swap_remove(self.dice.below(SAVED));
+        }
+        self.saved.push(form);
+    }
+
+    pub fn load(&mut self, form: &[u8]) {
+        self.hand.pen.load(form);
+        let before = ReaderLook::at(&self.reader);
+        let loaded = self.reader.load(form);
+        self.watch.load(before, form, loaded);
+    }
+
+    fn sets(&mut self) {
+        match self.dice.weigh(&[45, 15, 15, 25]) {
+            0 => self.some_set(),
+            1 => self.set_inside(),
+            2 => self.set_before_resend(),
+            _ => self.locked_ones(),
+        }
+        // Most of the other steps want parameters that can be set.
+        if self.reader.table().locks.contains(&true) && self.dice.chance(50) {
+            let set = sets::free(&mut self.dice);
+            self.load(&form::save(&set));
+        }
+    }
+
+    /// Loads a right form, spoiled ones or one saved before, or saves one.
+    fn some_set(&mut self) {
+        match self.dice.weigh(&[30, 35, 15, 20]) {
+            0 => {
+                let set = sets::good(&mut self.dice);
+                self.load(&form::save(&set));
+            }
+            1 => self.bad_forms(),
+            2 if !self.saved.is_empty() => {
+                let form = self.saved[self.dice.below(self.saved.len())].clone();
+                self.load(&form);
+            }
+            _ => self.save(),
+        }
+    }
+
+    /// Several in a row: they change nothing, and there are many ways to be wrong.
+    fn bad_forms(&mut self) {
+        for _ in 0..self.dice.between(1, 8) {
+            let form = sets::bad_form(&mut self.dice);
+            self.load(&form);
+        }
+    }
+
+    /// In the middle of a packet, which goes on after it; or while the reader is deaf.
+    fn set_inside(&mut self) {
+        if self.dice.chance(20) {
+            self.send(&[3]);
+            return self.some_set();
+        }
+        let packet = self.some_command();
+        let at = self.dice.between(1, packet.len() - 1);
+        self.send(&packet[..at]);
+        self.some_set();
+        self.send(&packet[at..]);
+        self.after_packet();
+    }
+
+    /// Between a command and its marked copy.
+    fn set_before_resend(&mut self) {
+        let packet = self.some_command();
+        self.whole(packet);
+        let last = self.last_accepted();
+        self.some_set();
+        if let Some(body) = last {
+            self.resend(&body);
+        }
+    }
+
+    /// A set with locks, and what they hold against.
+    fn locked_ones(&mut self) {
+        let set = sets::locked(&mut self.dice);
+        self.load(&form::save(&set));
+        for _ in 0..self.dice.between(1, 5) {
+            match self.dice.weigh(&[50, 20, 10, 10, 10]) {
+                0 => self.name_locked(),
+                1 => self.command(PARAM_DEFAULTS, &[]),
+                2 => self.power_up(),
+                3 => self.pair_at_an_edge(),
+                _ => self.save(),
+            }
+        }
+    }
+
+    /// A PARAM_SEND that names a locked parameter, alone or among others, with the value that it has or another.
+    fn name_locked(&mut self) {
+        let table = *self.reader.table();
+        let (locked, free): (Vec<usize>, Vec<usize>) = (0..ROWS.len()).partition(|place| table.locks[*place]);
+        if locked.is_empty() {
+            return self.param_send();
+        }
+        let place = self.dice.pick(&locked);
+        let value = if self.dice.chance(50) { table.present[place] } else { good_value(&mut self.dice, ROWS[place]) };
+        let mut pairs = vec![[ROWS[place][0], value]];
+        for _ in 0..self.dice.pick(&[0, 0, 1, 3]).min(free.len()) {
+            let row = ROWS[self.dice.pick(&free)];
+            let at = self.dice.between(0, pairs.len());
+            pairs.insert(at, [row[0], good_value(&mut self.dice, row)]);
+        }
+        let data = [vec![self.beep_byte()], pairs.concat()].concat();
+        let status = self.dice.pick(&[0, 0, PERMANENT, PERMANENT, MARK]);
+        self.whole(lay_out(PARAM_SEND, HOST, status, &data));
     }
 
     // Everything else.

@@ -7,6 +7,7 @@ mod from_host;
 mod from_reader;
 mod pen;
 mod rooms;
+mod sets;
 mod sweep;
 mod texts;
 
@@ -244,8 +245,13 @@ trait Line: Sized {
     /// What was accepted before the machine forgot it, marked.
     fn resend_forgotten(&mut self, last: Option<Vec<u8>>) {
         if let Some(body) = last.filter(|_| self.dice().chance(50)) {
-            self.packet(&lay_out(body[1], body[2], body[3] | MARK, &body[HEADER..]));
+            self.resend(&body);
         }
+    }
+
+    /// A packet without mark and checksum, marked.
+    fn resend(&mut self, body: &[u8]) {
+        self.packet(&lay_out(body[1], body[2], body[3] | MARK, &body[HEADER..]));
     }
 
     /// What comes after a packet: mostly its gap, sometimes nothing, so that the next one is joined to it.

@@ -54,6 +54,12 @@ impl Pen {
         self.token(b'K', &[(size >> 8) as u8, size as u8]);
     }
 
+    /// `L`, the form, `;`.
+    pub fn load(&mut self, form: &[u8]) {
+        self.events += 1;
+        self.token(b'L', form);
+    }
+
     fn token(&mut self, letter: u8, bytes: &[u8]) {
         self.aside(letter);
         for byte in bytes {

@@ -1,12 +1,14 @@
 //! What is few enough to be tried whole: every opcode with every status, every source, every data length, every code
-//! and every pair. These streams have no seed.
+//! and every pair, every byte of a saved set's form and every choice of locks. These streams have no seed.
 
 use super::from_host::FromHost;
 use super::from_reader::FromReader;
 use super::Line;
+use crate::form::{load, save, LONGEST_FORM, WITHOUT_LOCKS};
 use crate::framer::LineEvent;
 use crate::packet::*;
-use crate::table::{allowed, NO_BEEP};
+use crate::table::{allowed, Table, NO_BEEP, ROWS};
+use crate::watch_sets::LENGTHS;
 
 /// Data of this length that is right for the opcode if the length is.
 fn data_of(opcode: u8, size: usize) -> Vec<u8> {
@@ -94,6 +96,8 @@ pub fn reader(stream: &mut FromHost) {
     wrong_bytes(&lay_out(BEEP, HOST, 0, &[1])).iter().for_each(|bytes| tell(bytes));
     reader_values(&mut tell);
     reader_answers(stream);
+    reader_forms(stream);
+    reader_locks(stream);
 }
 
 /// Every beep code, every number asked for, every pair.
@@ -135,6 +139,81 @@ fn reader_answers(stream: &mut FromHost) {
             stream.send(&lay_out(CMD_ACK, HOST, 0, &[]));
             stream.event(LineEvent::Gap);
         }
+    }
+}
+
+// Saved sets.
+
+/// A table in which no value is the house default, with these locks.
+fn other_table(locks: [bool; ROWS.len()]) -> Table {
+    let values = [1, 5, 4, 30, 3, 2, 0, 7, 0];
+    Table { present: values, permanent: values, locks }
+}
+
+/// The choice of locks in which the parameter in place n is locked where bit n is set.
+fn choice(bits: usize) -> [bool; ROWS.len()] {
+    std::array::from_fn(|place| bits >> place & 1 == 1)
+}
+
+/// Loads the form into a reader with other values and other locks, all of which a refusal has to leave.
+fn try_form(stream: &mut FromHost, form: &[u8]) {
+    stream.load(form);
+    stream.save();
+    if load(form).is_ok() {
+        stream.send(&lay_out(PARAM_REQUEST, HOST, 0, &[0xFE]));
+        stream.load(&save(&other_table(choice(0b0_1010_0110))));
+    }
+}
+
+/// Each byte of a form with three locks in every place, each length, each count of locks, and each pair of locks.
+fn reader_forms(stream: &mut FromHost) {
+    stream.load(&save(&other_table(choice(0b0_1010_0110))));
+    let forms =
+        [0, 0b0_0100_1001, 0b1_1111_1111].map(|bits| save(&Table { locks: choice(bits), ..Table::house_defaults() }));
+    for (place, byte) in (0..forms[1].len()).flat_map(|place| (0..=255).map(move |byte| (place, byte))) {
+        let mut form = forms[1].clone();
+        form[place] = byte;
+        try_form(stream, &form);
+    }
+    for (form, size) in forms.iter().flat_map(|form| (0..=LENGTHS).map(move |size| (form, size))) {
+        for more in [0, form[WITHOUT_LOCKS - 1], 0xEE, 0xFF] {
+            let mut form = form.clone();
+            form.resize(size, more);
+            try_form(stream, &form);
+        }
+    }
+    for (count, size) in (0..=255).flat_map(|count| (WITHOUT_LOCKS..=LONGEST_FORM).map(move |size| (count, size))) {
+        let mut form = forms[2].clone();
+        form[WITHOUT_LOCKS - 1] = count;
+        try_form(stream, &form[..size]);
+    }
+    for (first, second) in ROWS.iter().flat_map(|first| ROWS.iter().map(move |second| (first[0], second[0]))) {
+        let mut form = forms[0].clone();
+        form[WITHOUT_LOCKS - 1] = 2;
+        form.extend([first, second]);
+        try_form(stream, &form);
+    }
+}
+
+/// Every choice of locks: each parameter named with the value that it has and with another, for now and for good; then
+/// the house defaults, and a power-up.
+fn reader_locks(stream: &mut FromHost) {
+    for bits in 0..1 << ROWS.len() {
+        let table = other_table(choice(bits));
+        stream.load(&save(&table));
+        for (place, [number, _, _, default]) in ROWS.into_iter().enumerate() {
+            for (status, value) in [(0, table.present[place]), (0, default), (PERMANENT, default)] {
+                stream.send(&lay_out(PARAM_SEND, HOST, status, &[NO_BEEP, number, value]));
+            }
+        }
+        stream.save();
+        stream.load(&save(&table));
+        stream.send(&lay_out(PARAM_DEFAULTS, HOST, 0, &[]));
+        stream.send(&lay_out(PARAM_REQUEST, HOST, 0, &[0xFE]));
+        stream.save();
+        stream.power_up_alone();
+        stream.save();
+        stream.send(&lay_out(PARAM_SEND, HOST, PERMANENT, &[NO_BEEP, 0x80, 0]));
     }
 }
 

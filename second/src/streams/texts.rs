@@ -1,7 +1,9 @@
 //! Short texts for the notation: characters in each of its states, and tokens that are wrong as a whole.
 
 use super::endings::{Endings, DESK_HUB_ENDINGS, DESK_READER_ENDINGS, HUB_ENDINGS, READER_ENDINGS};
-use crate::listing::{Listing, Side};
+use crate::form::{save, LONGEST_FORM, WITHOUT_LOCKS};
+use crate::listing::{push_bytes, Listing, Side};
+use crate::table::{Table, ROWS};
 
 /// Lines are due before the end, and a program that stops too early doesn't write them.
 const LEAD: &[u8] = b"03 . ";
@@ -21,10 +23,17 @@ const MORE_ROOM: [State; 4] =
 /// After an `S` with no pair and with one, and after a lone digit there.
 const START: [State; 3] = [(b"S", b" 1B 38 ; T"), (b"S 1B", b" 38 ; T"), (b"S 1B 3", b" 38 ; T")];
 const MORE_START: [State; 1] = [(b"S 1", b" 38 ; T")];
+/// After an `L` with no pair, with one and with all that a form has but one, and after a lone digit there.
+const FORM: [State; 4] = [
+    (b"L", b" 01 ; W"),
+    (b"L 0", b" ; W"),
+    (b"L 01", b" 09 ; W"),
+    (b"L 01 09 80 01 89 63 8A 08 9B 00 9C 01 9E 00 9F 01 ED 63 EE 00 01", b" EE ; W"),
+];
 
 /// Characters that a program may take for others: ones that are not printed, the neighbours of the digits, signs and
 /// letters of other states and requests, small letters, and with the highest bit set.
-const NOTABLE: &[u8] = b"\0\t\n\x0C\r ./0:;@FGKLPSTUW[`gkx\x7F\x80\xA0\xAE\xFF";
+const NOTABLE: &[u8] = b"\0\t\n\x0C\r ./0:;@FGKLPSTUW[`gklwx\x7F\x80\xA0\xAE\xFF";
 
 /// After a lone digit nothing but another is right.
 const NOTABLE_AFTER_DIGIT: &[u8] = b"\t\n .;GKTfg";
@@ -34,7 +43,7 @@ pub fn texts(side: Side) -> Vec<Vec<u8>> {
     let (states, endings): (&[&[State]], [Endings; 2]) = match side {
         Side::Hub => (&[&BASE], [&HUB_ENDINGS, &DESK_HUB_ENDINGS]),
         Side::DeskHub => (&[&BASE, &ROOM], [&HUB_ENDINGS, &DESK_HUB_ENDINGS]),
-        Side::DeskReader => (&[&BASE, &ROOM, &START], [&READER_ENDINGS, &DESK_READER_ENDINGS]),
+        Side::DeskReader => (&[&BASE, &ROOM, &START, &FORM], [&READER_ENDINGS, &DESK_READER_ENDINGS]),
     };
     let mut texts = vec![Vec::new()];
     for state in states.concat() {
@@ -45,6 +54,9 @@ pub fn texts(side: Side) -> Vec<Vec<u8>> {
     if side != Side::Hub {
         texts.extend(long_tokens());
     }
+    if side == Side::DeskReader {
+        texts.extend(long_forms());
+    }
     texts
 }
 
@@ -53,7 +65,7 @@ pub fn every_text(side: Side) -> Vec<Vec<u8>> {
     let states: &[&[State]] = match side {
         Side::Hub => &[&BASE],
         Side::DeskHub => &[&BASE, &ROOM, &MORE_ROOM],
-        Side::DeskReader => &[&BASE, &ROOM, &MORE_ROOM, &START, &MORE_START],
+        Side::DeskReader => &[&BASE, &ROOM, &MORE_ROOM, &START, &MORE_START, &FORM],
     };
     let mut texts = Vec::new();
     let every: Vec<u8> = (0..=255).collect();
@@ -90,4 +102,22 @@ fn long_tokens() -> Vec<Vec<u8>> {
         texts.push([LEAD, &token, b" ;", AFTER].concat());
     }
     texts
+}
+
+/// A right form with so much behind it that a program which keeps a front alone, or the low bytes of a length, may take
+/// it; then the set as it is.
+fn long_forms() -> Vec<Vec<u8>> {
+    let table = Table { permanent: ROWS.map(|row| row[1]), ..Table::house_defaults() };
+    let text = |size: usize| {
+        let mut form = save(&table);
+        form.resize(size, 0);
+        let mut text = b"L".to_vec();
+        push_bytes(&form, &mut text);
+        text.extend_from_slice(b" ; W\n");
+        text
+    };
+    [LONGEST_FORM, LONGEST_FORM + 1, 255, 256, 4_097, 4_098, 4_099, 65_536, 200_000]
+        .into_iter()
+        .flat_map(|size| [text(size), text(size + WITHOUT_LOCKS)])
+        .collect()
 }

@@ -2,8 +2,8 @@
 //!
 //! A machine's state is its control bytes and its buffers, all lent to every call. Any bytes are a control value.
 //! Control bytes or a room of too small a size give [`Refusal::Room`](crate::Refusal::Room), with nothing changed;
-//! that is looked at first, at every event, before the short way too. Buffers of fixed size are arrays. Bytes past what
-//! is written stay as they were in every room.
+//! that is looked at first, at every event, before the short way too; only a set that is read ([`reader::load`]) is
+//! looked at before it. Buffers of fixed size are arrays. Bytes past what is written stay as they were in every room.
 //!
 //! ```
 //! use motikhund::constants::{HUB_ANSWER_SIZE, HUB_CONTROL_SIZE, LINE_SIZE, MESSAGE_SIZE};

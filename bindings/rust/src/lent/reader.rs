@@ -2,7 +2,7 @@
 
 use crate::constants::{
     ACTED, COPY, DELIVERED, FAILED, LINE_SIZE, MESSAGE_SIZE, PACKET_SIZE, READER_ANSWER_SIZE, READER_CONTROL_SIZE,
-    READER_VALUE_ANSWER, READER_VALUE_SENT, REPEATED,
+    READER_VALUE_ANSWER, READER_VALUE_PERMANENT, READER_VALUE_SENT, REPEATED,
 };
 use crate::lent::sender::outcome;
 use crate::numbers::{byte, done, front, told};
@@ -16,8 +16,8 @@ pub fn on(control: &mut [u8]) -> Result<(), Refusal> {
     done(calls::reader_on(control))
 }
 
-/// Power-up: permanent values are copied to present ones; framer, sender and the last accepted packet are forgotten. So
-/// is whether the message before failed: a message gap is due before the first message after it.
+/// Power-up: permanent values are copied to present ones, locks stay; framer, sender and the last accepted packet are
+/// forgotten. So is whether the message before failed: a message gap is due before the first message after it.
 pub fn power_up(control: &mut [u8]) -> Result<(), Refusal> {
     done(calls::reader_power_up(control))
 }
@@ -75,7 +75,10 @@ fn hear_whole<'a>(
     let answer = front(answer, values[READER_VALUE_ANSWER]);
     let sent = values[READER_VALUE_SENT];
     match told(number) {
-        Ok(ACTED) => ReaderTold::Acted { beep: Beep::from_values(values), answer },
+        Ok(ACTED) => {
+            let permanent = values[READER_VALUE_PERMANENT] == 1;
+            ReaderTold::Acted { beep: Beep::from_values(values), permanent, answer }
+        }
         Ok(REPEATED) => ReaderTold::Repeated { answer },
         Ok(COPY) => ReaderTold::Copy(front(copy, sent)),
         Ok(DELIVERED) => ReaderTold::Delivered { copies: sent },
@@ -83,6 +86,27 @@ fn hear_whole<'a>(
         Ok(_) => ReaderTold::Nothing,
         Err(why) => ReaderTold::Refused { why, answer },
     }
+}
+
+/// Writes the permanent values and the locks as the form of a set, at the front of the room
+/// ([`SET_SIZE`](crate::constants::SET_SIZE)), and gives its bytes.
+pub fn save<'a>(control: &[u8], room: &'a mut [u8]) -> Result<&'a [u8], Refusal> {
+    let (number, size) = calls::reader_save(control, room);
+    done(number)?;
+    Ok(front(room, size))
+}
+
+/// Reads the form of a set: permanent values, present values and locks become those of the set, and the last accepted
+/// packet is forgotten; all else stays. A form that is not right is refusal 12, before a control value that is too small.
+pub fn load(control: &mut [u8], form: &[u8]) -> Result<(), Refusal> {
+    done(calls::reader_load(control, form))
+}
+
+/// Whether a parameter is locked; one that is not supported is not.
+pub fn locked(control: &[u8], number: u8) -> Result<bool, Refusal> {
+    let (number, value) = calls::reader_locked(control, number);
+    done(number)?;
+    Ok(value == 1)
 }
 
 /// The present value of a parameter; 0 where it is not supported.

@@ -6,6 +6,7 @@ use std::process::Stdio;
 use std::thread;
 
 use crate::run::{command, ended, run, Ran};
+use crate::sets;
 
 /// Each read gets one part: a datagram is never joined with the next one. An empty one is the end of the input.
 fn in_parts_of(size: usize, end: &str, input: &[u8]) -> Ran {
@@ -31,6 +32,7 @@ fn however_it_is_cut(end: &str, cases: &[u8]) {
 #[test]
 fn of_the_reader() {
     however_it_is_cut("reader", include_bytes!("reader_cases.txt"));
+    however_it_is_cut("reader", sets::CASES.as_bytes());
 }
 
 #[test]

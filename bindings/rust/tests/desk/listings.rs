@@ -86,4 +86,5 @@ fn nothing_comes_of_nothing() {
         assert_eq!(lines(end, "K 00 00 00"), "");
     }
     assert_eq!(lines("reader", "S 1B 38"), "");
+    assert_eq!(lines("reader", "L "), "");
 }

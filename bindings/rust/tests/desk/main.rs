@@ -8,5 +8,6 @@ mod pipes;
 mod places;
 mod rooms;
 mod run;
+mod sets;
 mod starts;
 mod story;

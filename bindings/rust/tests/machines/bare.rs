@@ -1,7 +1,7 @@
 //! The raw calls over fenced buffers, and what the safe ones told as the numbers that the raw ones give, to be
 //! compared.
 
-use motikhund::constants::SWITCH_VALUES;
+use motikhund::constants::{READER_VALUES, SWITCH_VALUES};
 use motikhund::packet::Head;
 use motikhund::{raw, Event, Found, HubTold, Outcome, ReaderTold, Refusal};
 
@@ -126,8 +126,11 @@ pub fn reader_power_up([control, ..]: &mut Reader) -> u32 {
     unsafe { raw::mk_reader_power_up(control.as_mut_ptr(), control.len()) }
 }
 
-pub fn reader_hear([control, line, answers, message, answer, copy]: &mut Reader, event: u32) -> (u32, [usize; 5]) {
-    let (control, answer, copy, mut values) = (control.lent(), answer.lent(), copy.lent(), [JUNK; 5]);
+pub fn reader_hear(
+    [control, line, answers, message, answer, copy]: &mut Reader,
+    event: u32,
+) -> (u32, [usize; READER_VALUES]) {
+    let (control, answer, copy, mut values) = (control.lent(), answer.lent(), copy.lent(), [JUNK; READER_VALUES]);
     let number = unsafe {
         raw::mk_reader_hear(
             control.as_mut_ptr(),
@@ -144,6 +147,24 @@ pub fn reader_hear([control, line, answers, message, answer, copy]: &mut Reader,
         )
     };
     (number, values)
+}
+
+pub fn reader_save(control: &mut Fenced, room: &mut Fenced) -> (u32, usize) {
+    let (control, room, mut size) = (control.lent(), room.lent(), JUNK);
+    let (state, to) = (control.as_ptr(), room.as_mut_ptr());
+    let number = unsafe { raw::mk_reader_save(state, control.len(), to, room.len(), &mut size) };
+    (number, size)
+}
+
+pub fn reader_load(control: &mut Fenced, form: &[u8]) -> u32 {
+    let control = control.lent();
+    unsafe { raw::mk_reader_load(control.as_mut_ptr(), control.len(), form.as_ptr(), form.len()) }
+}
+
+pub fn reader_locked(control: &mut Fenced, number: u8) -> (u32, usize) {
+    let (control, mut value) = (control.lent(), JUNK);
+    let told = unsafe { raw::mk_reader_locked(control.as_ptr(), control.len(), number, &mut value) };
+    (told, value)
 }
 
 pub fn reader_value([control, ..]: &mut Reader, number: u8) -> (u32, usize) {
@@ -210,22 +231,22 @@ pub fn of_outcome(outcome: Outcome<'_>) -> (u32, usize) {
     }
 }
 
-pub fn of_reader(told: ReaderTold<'_>) -> (u32, [usize; 5]) {
+pub fn of_reader(told: ReaderTold<'_>) -> (u32, [usize; READER_VALUES]) {
     let outgoing = told.outgoing().len();
     match told {
-        ReaderTold::Nothing => (0, [0; 5]),
-        ReaderTold::Acted { beep, answer } => {
+        ReaderTold::Nothing => (0, [0; READER_VALUES]),
+        ReaderTold::Acted { beep, permanent, answer } => {
             let row = beep.map_or([0; 3], |beep| [beep.duration, beep.pitch, beep.count]).map(usize::from);
             assert_eq!(answer.len(), outgoing);
-            (130, [outgoing, row[0], row[1], row[2], 0])
+            (130, [outgoing, row[0], row[1], row[2], 0, permanent.into()])
         }
-        ReaderTold::Repeated { .. } => (111, [outgoing, 0, 0, 0, 0]),
-        ReaderTold::Refused { why, .. } => (why.number(), [outgoing, 0, 0, 0, 0]),
+        ReaderTold::Repeated { .. } => (111, [outgoing, 0, 0, 0, 0, 0]),
+        ReaderTold::Refused { why, .. } => (why.number(), [outgoing, 0, 0, 0, 0, 0]),
         ReaderTold::Copy(copy) => {
             assert_eq!(copy.len(), outgoing);
-            (120, [0, 0, 0, 0, copy.len()])
+            (120, [0, 0, 0, 0, copy.len(), 0])
         }
-        ReaderTold::Delivered { copies } => (121, [outgoing, 0, 0, 0, copies]),
-        ReaderTold::Failed { copies } => (122, [outgoing, 0, 0, 0, copies]),
+        ReaderTold::Delivered { copies } => (121, [outgoing, 0, 0, 0, copies, 0]),
+        ReaderTold::Failed { copies } => (122, [outgoing, 0, 0, 0, copies, 0]),
     }
 }

@@ -31,7 +31,7 @@ fn rows() -> Vec<Beep> {
 fn each_code_reports_its_row() {
     assert_eq!(rows().len(), 0x1E);
     for (code, row) in (0..).zip(rows()) {
-        let sounds = ReaderTold::Acted { beep: Some(row), answer: &reader_ack() };
+        let sounds = ReaderTold::Acted { beep: Some(row), permanent: false, answer: &reader_ack() };
         for beep in [command(OPCODE_BEEP, &[code]), command(OPCODE_PARAM_SEND, &[code])] {
             assert_eq!(reader_hears(&mut Reader::new(), &sent(&beep)), sounds);
         }
@@ -43,7 +43,7 @@ fn other_codes_are_refused() {
     let refused = ReaderTold::Refused { why: Refusal::Beep, answer: &nak(SOURCE_READER, 6) };
     for code in 0x1E..=0xFF {
         assert_eq!(reader_hears(&mut Reader::new(), &sent(&command(OPCODE_BEEP, &[code]))), refused);
-        let silent = ReaderTold::Acted { beep: None, answer: &reader_ack() };
+        let silent = ReaderTold::Acted { beep: None, permanent: false, answer: &reader_ack() };
         let told = if code == 0xFF { silent } else { refused };
         assert_eq!(reader_hears(&mut Reader::new(), &sent(&command(OPCODE_PARAM_SEND, &[code]))), told);
     }
@@ -67,7 +67,7 @@ fn commands_switch() {
     ];
     let mut reader = Reader::new();
     for (opcode, data, on) in steps {
-        let acted = ReaderTold::Acted { beep: None, answer: &reader_ack() };
+        let acted = ReaderTold::Acted { beep: None, permanent: false, answer: &reader_ack() };
         assert_eq!(reader_hears(&mut reader, &sent(&command(opcode, data))), acted);
         let [scanning, session, aim, led] = on.map(|on| on == 1);
         assert_eq!(reader.switched(), Switches { scanning, session, aim, led });

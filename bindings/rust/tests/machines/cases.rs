@@ -59,9 +59,9 @@ fn cases_5_and_6_are_sent_and_handed_out() {
 #[test]
 fn case_8_is_answered_after_case_7() {
     let mut reader = Reader::new();
-    let accepted = ReaderTold::Acted { beep: None, answer: &reader_ack() };
+    let accepted = ReaderTold::Acted { beep: None, permanent: false, answer: &reader_ack() };
     assert_eq!(reader_hears(&mut reader, &sent(&bytes(CASE_7))), accepted);
-    let answered = ReaderTold::Acted { beep: None, answer: &bytes(ANSWER_8) };
+    let answered = ReaderTold::Acted { beep: None, permanent: false, answer: &bytes(ANSWER_8) };
     assert_eq!(reader_hears(&mut reader, &sent(&bytes(CASE_8))), answered);
 }
 

@@ -1,5 +1,5 @@
-//! Every lent byte after a refusal, with garbage of several kinds around what it needs. On 11 and 13 none changes, and
-//! the values told are 0. On 1 to 10 these change and no other: the answer at the front of its room, the byte that came
+//! Every lent byte after a refusal, with garbage of several kinds around what it needs. On 11 to 13 none changes, and
+//! the values told are 0 (12 is in `sets.rs`). On 1 to 10 these change and no other: the answer at the front of its room, the byte that came
 //! in its place in the line, and the control value as the rules have it (docs/PROTOCOL.md §6).
 
 use motikhund::constants::*;
@@ -20,19 +20,32 @@ const BARRED: usize = 18;
 const BEGUN: usize = 19;
 const CODE: usize = 20;
 const GATHERED: usize = 21;
-const ANSWERED: usize = 18;
+pub const LAST: usize = 10;
+pub const ANSWERED: usize = 18;
+pub const PRESENT: usize = 26;
 const HANDSHAKE: usize = 32;
-const SWITCHES: usize = 44;
-const READERS_SENDER: usize = 48;
+pub const PERMANENT: usize = 35;
+pub const LOCKS: usize = 44;
+const SWITCHES: usize = 53;
+const READERS_SENDER: usize = 57;
 const OUT_FLAG: usize = 0;
 const FAILED_FLAG: usize = 2;
 const LENGTH: usize = 3;
 
 /// The flags behind the framer's bytes.
 pub const HUB_FLAGS: [usize; 4] = [DEAF, SECOND, BARRED, BEGUN];
-pub const READER_FLAGS: [usize; 8] = [
+pub const READER_FLAGS: [usize; 17] = [
     DEAF,
     SECOND,
+    LOCKS,
+    LOCKS + 1,
+    LOCKS + 2,
+    LOCKS + 3,
+    LOCKS + 4,
+    LOCKS + 5,
+    LOCKS + 6,
+    LOCKS + 7,
+    LOCKS + 8,
     SWITCHES,
     SWITCHES + 1,
     SWITCHES + 2,
@@ -221,11 +234,13 @@ fn set_out(sender: &mut [u8]) {
     sender[LENGTH] = 1;
 }
 
-/// A refusal of the reader: in either half, with 9Fh at 1 too, with a message out and with none.
-fn reader_refuses((text, why, cause): (&str, Refusal, u8)) {
+/// A refusal of the reader: in either half, with 9Fh at 1 too, with a message out and with none. What else the control
+/// value must have is set in it first.
+fn reader_refuses((text, why, cause): (&str, Refusal, u8), set: impl Fn(&mut [u8])) {
     each(READER, 8, |way, mut lent, about| {
         let [control, line, _, _, answer, _] = &mut lent;
         let out = way & 4 != 0;
+        set(control.lent());
         if way & 1 != 0 {
             control.lent()[SECOND] = 1;
         }
@@ -239,7 +254,7 @@ fn reader_refuses((text, why, cause): (&str, Refusal, u8)) {
         let answers = control.lent()[HANDSHAKE] == ACK_NAK_ON && !(out && why <= Refusal::Cut);
         due_reader(control.due(), why);
         let size = if answers { due_answer(answer, &nak(SOURCE_READER, cause)) } else { 0 };
-        assert_eq!(bare::reader_hear(&mut lent, event), (why.number(), [size, 0, 0, 0, 0]), "{about}, {text}");
+        assert_eq!(bare::reader_hear(&mut lent, event), (why.number(), [size, 0, 0, 0, 0, 0]), "{about}, {text}");
         assert!(lent.iter().all(Fenced::unchanged), "{about}, {text}");
     });
 }
@@ -251,8 +266,11 @@ fn of_the_reader() {
         ("06 C6 04 00 FF 8A FD A7", Refusal::Data, CAUSE_CONTEXT),
         ("07 C6 04 00 1E 8A 08 FE 7F", Refusal::Beep, CAUSE_DENIED),
     ];
-    READER_CASES.into_iter().chain(more).for_each(reader_refuses);
-    reader_refuses((&longest, Refusal::Checksum, CAUSE_RESEND));
+    READER_CASES.into_iter().chain(more).for_each(|case| reader_refuses(case, |_| {}));
+    reader_refuses((&longest, Refusal::Checksum, CAUSE_RESEND), |_| {});
+    // 8Ah is the third; its value would be allowed.
+    let locked = ("07 C6 04 00 FF 8A 00 FD A6", Refusal::Setting, CAUSE_DENIED);
+    reader_refuses(locked, |control| control[LOCKS + 2] = 1);
 }
 
 /// Over 4,096 bytes, one still out, or both.
@@ -290,7 +308,9 @@ fn of_short_rooms() {
     lends(SENDER, (ROOM, 0), |dice, lent| bare::sender_hear(lent, event(dice)));
     lends(SENDER, (ROOM, 0), |dice, lent| bare::sender_start(lent, dice.byte(), b"8"));
     lends(READER, (ROOM, [0; READER_VALUES]), |dice, lent| bare::reader_hear(lent, event(dice)));
-    // A start and a time-out ask for the control value and the copy room, the last two for the control value alone.
+    let saving = [Size::Room(READER_CONTROL_SIZE), Size::Room(SET_SIZE)];
+    lends(saving, (ROOM, 0), |_, [control, room]| bare::reader_save(control, room));
+    // A start and a time-out ask for the control value and the copy room, the last three for the control value alone.
     let asks = |places: &[usize]| {
         let mut sizes = READER.map(|size| Size::Array(size.least()));
         places.iter().for_each(|place| sizes[*place] = READER[*place]);
@@ -298,6 +318,7 @@ fn of_short_rooms() {
     };
     lends(asks(&[0, 5]), (ROOM, 0), |dice, lent| bare::reader_start(lent, dice.byte(), b"8"));
     lends(asks(&[0, 5]), (ROOM, 0), |_, lent| bare::reader_time_out(lent));
+    lends(asks(&[0]), (ROOM, 0), |dice, lent| bare::reader_locked(&mut lent[0], dice.byte()));
     lends(asks(&[0]), (ROOM, 0), |dice, lent| bare::reader_value(lent, dice.byte()));
     lends(asks(&[0]), (ROOM, [0; SWITCH_VALUES]), |_, lent| bare::reader_switches(lent));
 }

@@ -6,10 +6,10 @@ use std::collections::BTreeSet;
 
 use motikhund::constants::{
     ANSWER_SIZE, FRAMER_CONTROL_SIZE, HUB_CONTROL_SIZE, LINE_SIZE, MESSAGE_SIZE, PACKET_SIZE, READER_ANSWER_SIZE,
-    READER_CONTROL_SIZE, SENDER_CONTROL_SIZE,
+    READER_CONTROL_SIZE, SENDER_CONTROL_SIZE, SET_SIZE,
 };
 use motikhund::lent::{framer, hub, reader, sender};
-use motikhund::{packet, Heard, Reply};
+use motikhund::{packet, Heard, Refusal, Reply};
 
 use crate::bare;
 use crate::dice::Dice;
@@ -209,12 +209,13 @@ fn the_sender() {
 fn the_reader() {
     let mut seen = BTreeSet::new();
     let mut brought = BTreeSet::new();
+    let mut sets = BTreeSet::new();
     runs(|dice| {
         let mut stream = Stream::new(Side::Reader);
         let mut twins = Twins::new(dice, READER);
         for _ in 0..EVENTS {
             if dice.chance(1) {
-                twins.garble(dice, &[0, 10, 18, 51, 59, 67, 75], &[8, 9, 44, 45, 46, 47, 48, 50]);
+                twins.garble(dice, &[0, 10, 18, 60, 68, 76, 84], &READER_FLAGS);
             }
             // How many bytes of line, kept answer, message, answer room and copy room may be written.
             let mut written = [0; 5];
@@ -241,13 +242,27 @@ fn the_reader() {
                     assert_eq!(bare::reader_power_up(&mut twins.bare), 0);
                     assert_eq!(reader::power_up(control.lent()), Ok(()));
                 }
+                3 => {
+                    // The set written, and read again as it is or with a byte changed.
+                    let mut room = Fenced::new(dice, SET_SIZE);
+                    let mut form = reader::save(control.lent(), room.lent()).expect("a room").to_vec();
+                    assert!(room.unchanged_past(form.len()));
+                    let told = bare::reader_save(&mut twins.bare[0], &mut room);
+                    assert_eq!((told, &room.lent()[..form.len()]), ((101, form.len()), &form[..]));
+                    let place = dice.below(form.len());
+                    form[place] ^= if dice.chance(25) { 1 + dice.byte() % 255 } else { 0 };
+                    let told = bare::reader_load(&mut twins.bare[0], &form);
+                    let loaded = reader::load(control.lent(), &form);
+                    assert_eq!(loaded.map_or_else(Refusal::number, |()| 0), told);
+                    sets.insert(told);
+                }
                 _ => {
                     let event = stream.next(dice);
                     let told = bare::reader_hear(&mut twins.bare, bare::event_number(event));
                     let (line, answers, message) = (line.array(), answers.array(), message.array());
                     let safe = reader::hear(control.lent(), line, answers, message, answer.lent(), copy.lent(), event);
                     assert_eq!(bare::of_reader(safe), told);
-                    let (number, [answer, _, _, _, value]) = told;
+                    let (number, [answer, _, _, _, value, _]) = told;
                     seen.insert(number);
                     written = [LINE_SIZE, READER_ANSWER_SIZE, 0, answer, copied((number, value))];
                 }
@@ -257,8 +272,12 @@ fn the_reader() {
             let number = dice.pick(&[0x80, 0x89, 0x8A, 0x9B, 0x9C, 0x9E, 0x9F, 0xED, 0xEE, 0x00]);
             let (told, value) = bare::reader_value(&mut twins.bare, number);
             assert_eq!((told, Ok(value as u8)), (0, reader::value(twins.safe[0].lent(), number)));
+            let (told, value) = bare::reader_locked(&mut twins.bare[0], number);
+            assert_eq!((told, Ok(value == 1)), (0, reader::locked(twins.safe[0].lent(), number)));
+            assert!(value <= 1);
         }
     });
     assert_eq!(seen, [0, 1, 2, 3, 4, 5, 6, 7, 8, 9, 111, 120, 121, 122, 130].into());
     assert_eq!(brought, [0, 11, 120, 122].into());
+    assert_eq!(sets, [0, 12].into());
 }

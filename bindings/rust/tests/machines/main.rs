@@ -17,5 +17,6 @@ mod owners;
 mod parameters;
 mod refusals;
 mod rooms;
+mod sets;
 mod story;
 mod streams;

@@ -119,7 +119,7 @@ fn a_reader_sends_and_takes_commands_at_once() {
     let mut reader = Reader::new();
     assert!(matches!(reader.send(0x1B, b"8"), Outcome::Copy(_)));
     let aim = packet(OPCODE_AIM_ON, SOURCE_HOST, 0, &[]);
-    let acted = ReaderTold::Acted { beep: None, answer: &ack(SOURCE_READER) };
+    let acted = ReaderTold::Acted { beep: None, permanent: false, answer: &ack(SOURCE_READER) };
     assert_eq!(reader_hears(&mut reader, &sent(&aim)), acted);
     let delivered = ReaderTold::Delivered { copies: 0 };
     assert_eq!(reader_hears(&mut reader, &sent(&ack(SOURCE_HOST))), delivered);

@@ -77,7 +77,7 @@ fn of_the_calls() {
 fn functions(text: &str, of: &str) -> BTreeSet<String> {
     let public = |line: &str| {
         let rest = line.strip_prefix("    pub fn ").or(line.strip_prefix("    pub const fn "))?;
-        rest.split('(').next().map(str::to_string)
+        rest.split(['(', '<']).next().map(str::to_string)
     };
     let (_, rest) = text.split_once(&format!("\nimpl {of} {{\n")).expect(of);
     rest.lines().take_while(|line| *line != "}").filter_map(public).collect()
@@ -100,7 +100,8 @@ fn of_the_machines() {
         only_rust.extend(rust.difference(&c).map(|name| format!("{of}::{name}")));
     }
     // What C reads in the struct or gets by a raw call.
-    assert_eq!(only_rust, ["Sender::idle", "Reader::control", "Reader::powered_up"]);
+    let of_reader = ["control", "load", "locked", "powered_up", "save"].map(|name| format!("Reader::{name}"));
+    assert_eq!(only_rust, [&["Sender::idle".to_string()][..], &of_reader].concat());
 }
 
 /// `mk_hub_hear` is `lent::hub::hear`, `mk_check` is `packet::check`. The short way is inside of those.
@@ -134,7 +135,7 @@ fn of_the_version() {
 /// The version's first two numbers rise with a control value's layout: who changes this line changes them too.
 #[test]
 fn of_the_layout() {
-    let (layout, sizes, defaults) = ("0.2.", [9, 29, 35, 83], (26, 35, 44));
+    let (layout, sizes, defaults) = ("0.3.", [9, 29, 35, 92], (26, 35, 53));
     assert!(VERSION.starts_with(layout), "{VERSION}");
     assert_eq!([FRAMER_CONTROL_SIZE, HUB_CONTROL_SIZE, SENDER_CONTROL_SIZE, READER_CONTROL_SIZE], sizes);
     let (present, permanent, switches) = defaults;
@@ -144,4 +145,11 @@ fn of_the_layout() {
     }
     on[switches] = 1;
     assert_eq!(Reader::new().control(), &on);
+    // The locks stand between values and switches.
+    let mut reader = Reader::new();
+    let house = [1, 9, 0x80, 0, 0x89, 10, 0x8A, 0, 0x9B, 20, 0x9C, 6, 0x9E, 4, 0x9F, 1, 0xED, 0, 0xEE, 1];
+    assert_eq!(reader.load(&[&house[..], &[2, 0x80, 0xEE]].concat()), Ok(()));
+    on[permanent + 9] = 1;
+    on[switches - 1] = 1;
+    assert_eq!(reader.control(), &on);
 }

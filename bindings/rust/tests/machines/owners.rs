@@ -4,7 +4,7 @@ use std::sync::Mutex;
 
 use motikhund::constants::{
     FRAMER_CONTROL_SIZE, HUB_ANSWER_SIZE, HUB_CONTROL_SIZE, LINE_SIZE, MESSAGE_SIZE, PACKET_SIZE, READER_ANSWER_SIZE,
-    READER_CONTROL_SIZE, SENDER_CONTROL_SIZE,
+    READER_CONTROL_SIZE, SENDER_CONTROL_SIZE, SET_SIZE,
 };
 use motikhund::lent::{framer, hub, reader, sender};
 use motikhund::{Event, Found, Framer, Heard, Hub, HubTold, Outcome, Reader, ReaderTold, Sender};
@@ -79,6 +79,13 @@ fn a_reader() {
                 owner.restart();
                 assert_eq!(reader::power_up(&mut control), Ok(()));
             }
+            3 => {
+                let (mut one, mut other) = ([0; SET_SIZE], [0; SET_SIZE]);
+                let set = owner.save(&mut one).to_vec();
+                assert_eq!(reader::save(&control, &mut other), Ok(&set[..]));
+                let form = any_locks(&mut dice, &set);
+                assert_eq!(owner.load(&form), reader::load(&mut control, &form));
+            }
             _ => {
                 let event = stream.next(&mut dice);
                 let (line, answers) = (&mut line, &mut answers);
@@ -89,7 +96,13 @@ fn a_reader() {
         assert_eq!(owner.control(), &control);
         assert_eq!(Ok(owner.switched()), reader::switches(&control));
         assert_eq!(Ok(owner.parameter(0x89)), reader::value(&control, 0x89));
+        assert_eq!(Ok(owner.locked(0x89)), reader::locked(&control, 0x89));
     }
+}
+
+/// The same values; locked now and then 89h, or what is no parameter.
+fn any_locks(dice: &mut Dice, set: &[u8]) -> Vec<u8> {
+    [&set[..20], dice.pick(&[&[0][..], &[0], &[1, 0x89], &[1, 0x81]])].concat()
 }
 
 /// What is made as a constant is what the library's call makes, each in a `static`.

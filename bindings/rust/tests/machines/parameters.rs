@@ -6,7 +6,7 @@ use motikhund::{Event, Reader, ReaderTold, Refusal};
 use crate::notation::{command, nak, packet, reader_ack, reader_hears, sent};
 
 /// Parameter, lowest, highest, house default.
-const ROWS: [[u8; 4]; 9] = [
+pub const ROWS: [[u8; 4]; 9] = [
     [PARAMETER_POWER_MODE, POWER_CONTINUOUS, POWER_LOW, POWER_CONTINUOUS],
     [PARAMETER_SAME_SYMBOL_TIME, 0, 99, 10],
     [PARAMETER_TRIGGER, TRIGGER_LEVEL, TRIGGER_HOST, TRIGGER_LEVEL],
@@ -18,17 +18,19 @@ const ROWS: [[u8; 4]; 9] = [
     [PARAMETER_PACKETED_DATA, DATA_RAW, DATA_PACKETED, DATA_PACKETED],
 ];
 
-fn set(status: u8, pairs: &[u8]) -> Vec<u8> {
+/// A PARAM_SEND without a beep.
+pub fn set(status: u8, pairs: &[u8]) -> Vec<u8> {
     packet(OPCODE_PARAM_SEND, SOURCE_HOST, status, &[&[0xFF], pairs].concat())
 }
 
 /// An ACK was the answer.
-fn acted(reader: &mut Reader, packet: &[u8]) {
+pub fn acted(reader: &mut Reader, packet: &[u8]) {
     let told = reader_hears(reader, &sent(packet));
-    assert_eq!(told, ReaderTold::Acted { beep: None, answer: &reader_ack() });
+    assert!(matches!(told, ReaderTold::Acted { beep: None, .. }), "{told:?}");
+    assert_eq!(told.outgoing(), reader_ack());
 }
 
-fn values(reader: &Reader) -> [u8; 9] {
+pub fn values(reader: &Reader) -> [u8; 9] {
     ROWS.map(|[number, ..]| reader.parameter(number))
 }
 
@@ -43,7 +45,7 @@ fn the_house_defaults() {
     let all = packet(OPCODE_PARAM_SEND, SOURCE_READER, 0, &[&[0xFF], &pairs[..]].concat());
     assert_eq!(all.len(), 25);
     let told = reader_hears(&mut reader, &sent(&command(OPCODE_PARAM_REQUEST, &[0xFE])));
-    assert_eq!(told, ReaderTold::Acted { beep: None, answer: &all });
+    assert_eq!(told, ReaderTold::Acted { beep: None, permanent: false, answer: &all });
 }
 
 #[test]
@@ -106,7 +108,7 @@ fn without_handshaking() {
     assert_eq!(short, ReaderTold::Refused { why: Refusal::Length, answer: &[] });
     assert_eq!(reader.event(Event::CharacterGap), ReaderTold::Nothing);
     let on = reader_hears(&mut reader, &sent(&set(0, &[0x9F, 1])));
-    assert_eq!(on, ReaderTold::Acted { beep: None, answer: &[] });
+    assert_eq!(on, ReaderTold::Acted { beep: None, permanent: false, answer: &[] });
     let again = reader_hears(&mut reader, &sent(&set(STATUS_RESEND, &[0x9F, 1])));
     assert_eq!(again, ReaderTold::Repeated { answer: &[] });
 }

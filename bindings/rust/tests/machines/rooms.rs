@@ -4,7 +4,7 @@ use std::fmt::Debug;
 
 use motikhund::constants::{
     ANSWER_SIZE, DATA_SIZE, FRAMER_CONTROL_SIZE, HUB_ANSWER_SIZE, HUB_CONTROL_SIZE, LINE_SIZE, MESSAGE_SIZE,
-    OPCODE_BEEP, PACKET_SIZE, READER_CONTROL_SIZE, SENDER_CONTROL_SIZE, SOURCE_HOST,
+    OPCODE_BEEP, PACKET_SIZE, READER_CONTROL_SIZE, SENDER_CONTROL_SIZE, SET_SIZE, SOURCE_HOST,
 };
 use motikhund::lent::{framer, hub, reader, sender};
 use motikhund::{packet, Event, Found, Heard, HubTold, Outcome, ReaderTold, Refusal, Reply};
@@ -14,6 +14,7 @@ use crate::dice::Dice;
 use crate::fenced::Size::{self, Array, Room};
 use crate::fenced::{Fenced, FILLS, FRAMER, HUB, READER, SENDER};
 use crate::notation::{bytes, hub_ack};
+use crate::sets::house_set;
 
 const ROUNDS: u64 = 50;
 
@@ -113,6 +114,11 @@ fn of_the_sender() {
 fn of_the_reader() {
     asks([Room(READER_CONTROL_SIZE)], |_, [control]| reader::on(control.lent()).err());
     asks([Room(READER_CONTROL_SIZE)], |_, [control]| reader::power_up(control.lent()).err());
+    asks([Room(READER_CONTROL_SIZE), Room(SET_SIZE)], |_, [control, room]| {
+        reader::save(control.lent(), room.lent()).err()
+    });
+    asks([Room(READER_CONTROL_SIZE)], |_, [control]| reader::load(control.lent(), &house_set()).err());
+    asks([Room(READER_CONTROL_SIZE)], |dice, [control]| reader::locked(control.lent(), dice.byte()).err());
     asks([Room(READER_CONTROL_SIZE)], |dice, [control]| reader::value(control.lent(), dice.byte()).err());
     asks([Room(READER_CONTROL_SIZE)], |_, [control]| reader::switches(control.lent()).err());
     let sizes = [Room(READER_CONTROL_SIZE), Array(MESSAGE_SIZE), Room(PACKET_SIZE)];

@@ -22,8 +22,8 @@ done-requires c κs = search needs
 enum-told-3 : tie.Need-enum-told-3
 enum-told-3 c = search needs
 
-defaults-requires : tie.Need-defaults-requires
-defaults-requires c κs = search needs
+set-defaults-requires : tie.Need-set-defaults-requires
+set-defaults-requires c κs = search needs
 
 done-requires-2 : tie.Need-done-requires-2
 done-requires-2 c κs = search needs
@@ -131,7 +131,7 @@ returns-2 c = effect-does (c .before .before .before .before .before .before .ar
 
 returns-3 : tie.Need-returns-3
 unfolding effect
-returns-3 c = effect-does (c .before .before .before .before .before .before .before .args .status) (c .before .before .before .before .before .before .before .args .«data» .now) ParamDefaults (c .before .before .enum-told3 .given .1) (rw (c .before .defaults .ensures .is) refl) (c .done2 .ensures)
+returns-3 c = effect-does (c .before .before .before .before .before .before .before .args .status) (c .before .before .before .before .before .before .before .args .«data» .now) ParamDefaults (c .before .before .enum-told3 .given .1) (rw (c .before .set-defaults .ensures .is) refl) (c .done2 .ensures)
 
 returns-4 : tie.Need-returns-4
 unfolding effect
@@ -178,7 +178,7 @@ act-on-spec =
     enum-told-2
     done-requires
     enum-told-3
-    defaults-requires
+    set-defaults-requires
     done-requires-2
     enum-told-4
     start-session-requires

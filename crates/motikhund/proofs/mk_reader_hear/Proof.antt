@@ -27,8 +27,11 @@ event-requires c κs = search needs
 hear-requires : tie.Need-hear-requires
 hear-requires c κs = search needs
 
+permanent-changed-requires : tie.Need-permanent-changed-requires
+permanent-changed-requires c κs = search needs
+
 put-reader-requires : tie.Need-put-reader-requires
-put-reader-requires c κs = search needs
+put-reader-requires c κs = c .before .before .before .before .before .before .before .before .before .before .before .before .before .before .before .before .before .before .before .if1 .left
 
 reader-values-requires : tie.Need-reader-values-requires
 reader-values-requires c κs = search needs
@@ -47,8 +50,8 @@ same-length-3 c = search needs
 
 returns-5 : tie.Need-returns-5
 returns-5 c =
-    let b = c .before .before .before .before .before .before .before .before .before .before .before .before .before .before .before .before .before .before .before .before in
-    reader-hears (b .before .before .before .if1 .left) (b .before .before .if2 .left) (b .before .if3 .left) (b .if4 .left) (c .before .before .before .before .before .before .before .before .before .before .before .before .before .before .before .before .before .before .reader .ensures) (c .before .before .before .before .before .before .before .before .before .before .before .before .before .event .ensures) (c .before .before .before .before .before .before .before .before .before .before .before .before .hear .ensures) (c .before .before .before .before .before .put-reader .ensures) (c .before .reader-values .ensures) (c .reader2 .ensures)
+    let b = c .before .before .before .before .before .before .before .before .before .before .before .before .before .before .before .before .before .before .before .before .before .before in
+    reader-hears (b .before .before .before .if1 .left) (b .before .before .if2 .left) (b .before .if3 .left) (b .if4 .left) (c .before .before .before .before .before .before .before .before .before .before .before .before .before .before .before .before .before .before .before .before .reader .ensures) (c .before .before .before .before .before .before .before .before .before .before .before .before .before .before .before .event .ensures) (c .before .before .before .before .before .before .before .before .before .before .before .before .before .before .hear .ensures) (c .before .before .before .before .before .before .before .permanent-changed .ensures) (c .before .before .before .before .before .put-reader .ensures) (c .before .reader-values .ensures) (c .reader2 .ensures)
 
 pub mk-reader-hear-spec : {M : Type 1} → statement M
 mk-reader-hear-spec =
@@ -61,6 +64,7 @@ mk-reader-hear-spec =
     reader-requires
     event-requires
     hear-requires
+    permanent-changed-requires
     put-reader-requires
     reader-values-requires
     reader-requires-2

@@ -17,16 +17,16 @@ pub trait End: Sized + 'static {
 pub enum Token<E> {
     /// The letter alone.
     Alone(u8, fn(&mut E, &mut Lines)),
-    /// With bytes after it, as many as its form lets through.
-    With(Form, Acts<E>),
+    /// With bytes after it, as many as its shape lets through.
+    With(Shape, Acts<E>),
 }
 
 /// What a token does with its bytes.
 pub type Acts<E> = fn(&mut E, &[u8], &mut Lines);
 
-/// The form of a letter with bytes.
+/// The shape of a letter with bytes.
 #[derive(Clone, Copy)]
-pub struct Form {
+pub struct Shape {
     pub letter: u8,
     /// Fewer bytes are wrong.
     pub least: usize,
@@ -42,7 +42,7 @@ pub enum Further {
     Wrong,
 }
 
-impl Form {
+impl Shape {
     /// So many bytes are kept: one more tells that there were too many.
     fn kept(&self) -> usize {
         self.most + usize::from(self.further == Further::Wrong)
@@ -53,7 +53,7 @@ impl Form {
 pub const CLOSING: u8 = b';';
 
 /// `K hh ll ;`, at either end: the size of the answer room.
-pub const ROOM: Form = Form { letter: b'K', least: 2, most: 2, further: Further::Wrong };
+pub const ROOM: Shape = Shape { letter: b'K', least: 2, most: 2, further: Further::Wrong };
 
 /// The size that the bytes of a `K` name, high byte first.
 pub fn size(bytes: &[u8]) -> usize {
@@ -67,7 +67,7 @@ pub struct Notation<E: End> {
     /// The first digit of a byte, while its second is awaited.
     digit: Option<u8>,
     /// A letter whose `;` is awaited.
-    opened: Option<(Form, Acts<E>)>,
+    opened: Option<(Shape, Acts<E>)>,
     /// Its bytes so far.
     bytes: Vec<u8>,
 }
@@ -113,7 +113,7 @@ impl<E: End> Notation<E> {
     fn byte(&mut self, byte: u8, lines: &mut Lines) {
         match self.opened {
             None => self.end.hear(Event::Byte(byte), lines),
-            Some((form, _)) if self.bytes.len() < form.kept() => self.bytes.push(byte),
+            Some((shape, _)) if self.bytes.len() < shape.kept() => self.bytes.push(byte),
             Some(_) => {}
         }
     }
@@ -125,19 +125,19 @@ impl<E: End> Notation<E> {
             (None, b'/') => self.end.hear(Event::MessageGap, lines),
             (None, letter) => match E::TOKENS.iter().find(|token| token.letter() == letter) {
                 Some(Token::Alone(_, act)) => act(&mut self.end, lines),
-                Some(Token::With(form, acts)) => {
-                    self.opened = Some((*form, *acts));
+                Some(Token::With(shape, acts)) => {
+                    self.opened = Some((*shape, *acts));
                     self.bytes.clear();
                 }
                 None => return Err(Trouble::Outside),
             },
-            (Some((form, _)), CLOSING) if self.bytes.len() < form.least => return Err(Trouble::Few(form)),
-            (Some((form, _)), CLOSING) if self.bytes.len() > form.most => return Err(Trouble::Many(form)),
+            (Some((shape, _)), CLOSING) if self.bytes.len() < shape.least => return Err(Trouble::Few(shape)),
+            (Some((shape, _)), CLOSING) if self.bytes.len() > shape.most => return Err(Trouble::Many(shape)),
             (Some((_, acts)), CLOSING) => {
                 self.opened = None;
                 acts(&mut self.end, &self.bytes, lines);
             }
-            (Some((form, _)), _) => return Err(Trouble::Inside(form)),
+            (Some((shape, _)), _) => return Err(Trouble::Inside(shape)),
         }
         Ok(())
     }
@@ -147,7 +147,7 @@ impl<E> Token<E> {
     fn letter(&self) -> u8 {
         match self {
             Token::Alone(letter, _) => *letter,
-            Token::With(form, _) => form.letter,
+            Token::With(shape, _) => shape.letter,
         }
     }
 }

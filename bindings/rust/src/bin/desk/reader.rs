@@ -5,7 +5,7 @@ use motikhund::lent::reader;
 use motikhund::{Event, Outcome, ReaderTold};
 
 use crate::lines::Lines;
-use crate::notation::{size, End, Form, Further, Token, ROOM};
+use crate::notation::{size, End, Further, Shape, Token, ROOM};
 
 /// The parameters' numbers, rising.
 const NUMBERS: [u8; 9] = [
@@ -21,7 +21,10 @@ const NUMBERS: [u8; 9] = [
 ];
 
 /// `S tt bb .. ;`: the code type, and one byte more than the longest message has, so that a longer one is refused.
-const START: Form = Form { letter: b'S', least: 1, most: 1 + MESSAGE_SIZE + 1, further: Further::Dropped };
+const START: Shape = Shape { letter: b'S', least: 1, most: 1 + MESSAGE_SIZE + 1, further: Further::Dropped };
+
+/// `L bb .. ;`: the form of a set, and one byte more than the longest has, so that a longer one is refused.
+const LOAD: Shape = Shape { letter: b'L', least: 0, most: SET_SIZE + 1, further: Further::Dropped };
 
 /// A reader with an answer room of any size. Its control bytes have their size, so no call refuses them.
 pub struct Reader {
@@ -61,6 +64,17 @@ impl Reader {
         }
     }
 
+    fn save(&mut self, lines: &mut Lines) {
+        lines.bytes(b'W', reader::save(&self.control, &mut [0; SET_SIZE]).unwrap_or_default());
+    }
+
+    fn load(&mut self, bytes: &[u8], lines: &mut Lines) {
+        match reader::load(&mut self.control, bytes) {
+            Ok(()) => lines.bytes(b'L', []),
+            Err(why) => lines.refusal(why),
+        }
+    }
+
     fn values(&mut self, lines: &mut Lines) {
         lines.bytes(b'U', &NUMBERS.map(|number| reader::value(&self.control, number).unwrap_or_default()));
     }
@@ -77,6 +91,8 @@ impl End for Reader {
         Token::With(START, Reader::start),
         Token::Alone(b'U', Reader::values),
         Token::With(ROOM, Reader::lend),
+        Token::Alone(b'W', Reader::save),
+        Token::With(LOAD, Reader::load),
     ];
 
     fn hear(&mut self, event: Event, lines: &mut Lines) {
@@ -88,7 +104,7 @@ impl End for Reader {
                 lines.refusal(why);
                 lines.answer(answer);
             }
-            ReaderTold::Acted { beep, answer } => {
+            ReaderTold::Acted { beep, answer, .. } => {
                 if let Some(beep) = beep {
                     lines.numbers(b'B', [beep.duration, beep.pitch, beep.count].map(usize::from));
                 }

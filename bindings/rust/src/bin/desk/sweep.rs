@@ -81,15 +81,17 @@ fn of_the_hub() {
 #[test]
 fn of_the_reader() {
     for text in ["", "04", "T", "P\r", "K0019;"] {
-        after(Reader::new, text, " \n\r./TPUSK");
+        after(Reader::new, text, " \n\r./TPUSKWL");
     }
     for text in ["S", "S\r"] {
         after(Reader::new, text, " \n\r");
     }
-    for text in ["S 1B", "S1b38 "] {
+    // A set of no bytes is a form too, a bad one; so is one of more bytes than any has.
+    let long = format!("L{}", "01".repeat(40));
+    for text in ["S 1B", "S1b38 ", "L", "L\r", "L 01", "L0109 ", &long] {
         after(Reader::new, text, " \n\r;");
     }
-    for text in ["0", "04 d", "S 1", "S1B3"] {
+    for text in ["0", "04 d", "S 1", "S1B3", "L0", "L 01 0"] {
         after_digit(Reader::new, text);
     }
     room(Reader::new);

@@ -2,7 +2,7 @@
 
 use std::fmt::{self, Display, Formatter};
 
-use crate::notation::{Form, CLOSING};
+use crate::notation::{Shape, CLOSING};
 
 /// Line and column of a character, from 1 on. A carriage return is a column like any other.
 #[derive(Clone, Copy)]
@@ -16,11 +16,11 @@ pub enum Trouble {
     /// No token begins with it.
     Outside,
     /// It stands between a letter and its `;`.
-    Inside(Form),
+    Inside(Shape),
     /// It is `;`, and bytes are missing before it.
-    Few(Form),
+    Few(Shape),
     /// It is `;`, and more bytes stand before it than may.
-    Many(Form),
+    Many(Shape),
     /// It comes after one digit of a byte. That digit is what is wrong: this character might be right elsewhere.
     Lone(u8),
 }
@@ -64,12 +64,12 @@ impl Display for Wrong {
         };
         match &self.trouble {
             Trouble::Outside => write!(to, "{this} is no hex digit, gap or token here"),
-            Trouble::Inside(Form { letter, .. }) => {
+            Trouble::Inside(Shape { letter, .. }) => {
                 write!(to, "{this} is wrong between '{}' and its '{}': ", char::from(*letter), char::from(CLOSING))?;
                 write!(to, "only bytes stand there, two hex digits each")
             }
-            Trouble::Few(form) => write!(to, "{this} comes too early: {form}"),
-            Trouble::Many(form) => write!(to, "{this} comes too late: {form}"),
+            Trouble::Few(shape) => write!(to, "{this} comes too early: {shape}"),
+            Trouble::Many(shape) => write!(to, "{this} comes too late: {shape}"),
             Trouble::Lone(digit) => {
                 write!(to, "'{}' is a lone digit: a byte is two hex digits together, ", char::from(*digit))?;
                 write!(to, "but {this} comes after it")
@@ -78,9 +78,9 @@ impl Display for Wrong {
     }
 }
 
-impl Display for Form {
+impl Display for Shape {
     fn fmt(&self, to: &mut Formatter) -> fmt::Result {
-        let Form { letter, least, most, .. } = *self;
+        let Shape { letter, least, most, .. } = *self;
         let limit = if least == most { "" } else { "at least " };
         let bytes = if least == 1 { "byte" } else { "bytes" };
         write!(to, "'{}' takes {limit}{least} {bytes}, then '{}'", char::from(letter), char::from(CLOSING))

@@ -1,6 +1,7 @@
--- `motikhund::control::put_table` meets its contract: the permanent values behind the present ones. Assumes nothing.
-use Rattle.motikhund.proofs.Storing.{table-put}
+-- `motikhund::control::put_table` meets its contract: the permanent values behind the present ones, then the locks. Assumes nothing.
+use mathlib.Core.Path.{refl}
 use native.Mathlib.Omega.{arith}
+use Rattle.motikhund.proofs.Storing.{table-put}
 use borrow.Author.Needs.{needs}
 use Rattle.motikhund.proofs.control.put_table.Statement.{statement}
 use Rattle.motikhund.proofs.control.put_table.Tie as tie
@@ -26,11 +27,23 @@ part-copy-end c = search needs
 copy-requires-2 : tie.Need-copy-requires-2
 copy-requires-2 c κs = search needs
 
+sub-put-locks : tie.Need-sub-put-locks
+sub-put-locks c = search needs
+
+part-put-locks-start : tie.Need-part-put-locks-start
+part-put-locks-start c = search needs
+
+part-put-locks-end : tie.Need-part-put-locks-end
+part-put-locks-end c = search needs
+
+put-locks-requires : tie.Need-put-locks-requires
+put-locks-requires c κs = search needs
+
 same-length : tie.Need-same-length
 same-length c = search needs
 
 returns : tie.Need-returns
-returns c = table-put (omega arith) (search needs) (search needs) (c .before .before .before .before .before .before .before .copy .ensures) (c .before .before .copy2 .ensures)
+returns c = table-put (omega arith) (search needs) (search needs) (search needs) (c .before .before .before .before .before .before .before .before .before .before .before .copy .ensures) (c .before .before .before .before .before .before .copy2 .ensures) refl (c .before .before .put-locks .ensures)
 
 pub put-table-spec : {M : Type 1} → statement M
 put-table-spec =
@@ -43,5 +56,9 @@ put-table-spec =
     part-copy-start
     part-copy-end
     copy-requires-2
+    sub-put-locks
+    part-put-locks-start
+    part-put-locks-end
+    put-locks-requires
     same-length
     returns)

@@ -19,8 +19,14 @@ array-read-count c = search needs
 outcome-value-requires : tie.Need-outcome-value-requires
 outcome-value-requires c κs = search needs
 
+flag-requires : tie.Need-flag-requires
+flag-requires c κs = search needs
+
+wide-requires : tie.Need-wide-requires
+wide-requires c κs = search needs
+
 returns : tie.Need-returns
-returns c = reader-values (c .before .before .reader-row .ensures) (c .before .outcome-value .ensures)
+returns c = reader-values (c .before .before .before .before .reader-row .ensures) (c .before .before .before .outcome-value .ensures) (c .before .before .flag .ensures) (c .before .wide .ensures)
 
 pub reader-values-spec : {M : Type 1} → statement M
 reader-values-spec =
@@ -31,4 +37,6 @@ reader-values-spec =
     array-read-pitch
     array-read-count
     outcome-value-requires
+    flag-requires
+    wide-requires
     returns)
