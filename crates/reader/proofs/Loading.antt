@@ -1,19 +1,14 @@
 -- What reading a saved set leaves, and what is locked: one law for each `return` of `load`, and the theorems over the definitions. Assumes nothing.
 use Prim.Native.Nat.{ℕ}
 use mathlib.Core.Path.{_≡_, refl, sym, ap, _∙_}
-use mathlib.Core.Bool.{Bool, true, false}
 use mathlib.Core.List.{List, [], _∷_}
 use lib.ListN.{length}
-use Rattle.words.specs.Lists.{pick}
 use Rattle.words.specs.Machine.{Done}
 use Rattle.words.proofs.Lists.{never}
 use Rattle.packet.specs.Packet.{unmarked}
 use Rattle.packet.specs.declared.Refusal.{Refusal}
 use Rattle.packet.specs.declared.Refusal.the-variants.{Form}
 use Rattle.framer.specs.Halves.{lineIn, keptIn, halfOf, lastOf, placeOf}
-use Rattle.framer.specs.Behind.{framed}
-use Rattle.framer.specs.declared.Event.{Event}
-use Rattle.sender.specs.Sender.{waits}
 use Rattle.table.specs.Rows.{parameterCount}
 use Rattle.table.specs.Table.{Values, Outcome as Settled, done, refused as unsettled, powerUp}
 use Rattle.table.specs.Promises.{valuesOf, tableOf, changedOf}
@@ -24,14 +19,15 @@ use Rattle.table.proofs.Theorems.{AllAllowed, KeepsLocked, keeps-same, keeps-th
 use Rattle.saved.specs.Saved.{edition1, formOf, readForm}
 use Rattle.saved.specs.Promises as saved
 use Rattle.saved.proofs.Theorems.{read-refusal, taken-allowed, carried}
-use Rattle.commands.proofs.Theorems.{does-keeps}
-use Rattle.reader.specs.Reader.{CoreState, ReaderState, Output, refused, noPacketStep, acts, senderHears, readerStep, withCore, startMessage, timeOut, powerUpReader, switchedOn, withSet, settled, loadSet}
+use Rattle.commands.specs.Commands.{DeviceState, acted}
+use Rattle.commands.proofs.Outcomes.{Does}
+use Rattle.commands.proofs.Theorems.{does-allowed, does-keeps}
+use Rattle.reader.specs.Reader.{ReaderState, Output, refused, senderHears, withCore, startMessage, timeOut, powerUpReader, withSet, settled, loadSet}
 use Rattle.reader.specs.Moments.{Moment, hears, starts, times-out, powers-up, afterOne, afterAll}
 use Rattle.reader.specs.Promises.{lastAnswerOf, coreOf, stateOf, loadedOf, Loads, WithTable}
 use Rattle.reader.specs.declared.Reader.{Reader}
 use Rattle.reader.specs.declared.Loaded.{Loaded}
-use Rattle.reader.proofs.Outcomes.{Outcome, heeds, turns, repeats, acts-on, Happens, nothing, no-packet, packet-heard, event-happens}
-use Rattle.reader.proofs.Theorems.{values-allowed}
+use Rattle.reader.proofs.Theorems.{event-values}
 
 -- ---- `load`
 
@@ -110,52 +106,29 @@ pub load-allowed : (s : ReaderState) (bytes : List ℕ) → AllAllowed (s .core 
 unfolding loadSet
 load-allowed s bytes k = settled-allowed s bytes (readForm edition1 bytes) refl k
 
--- ---- what is locked is kept
+-- ---- runs of events, starts, time-outs and power-ups
 
-outcome-keeps : {c : CoreState} {body : List ℕ} {d : Done CoreState Output} → Outcome c body d → KeepsLocked (c .device .values) (d .next .device .values)
-unfolding senderHears acts
-outcome-keeps {c} (heeds h) = keeps-same (c .device .values)
-outcome-keeps {c} (turns h n) = keeps-same (c .device .values)
-outcome-keeps {c} (repeats e) = keeps-same (c .device .values)
-outcome-keeps (acts-on k does) = does-keeps does
+-- The same over every run: a start and a time-out leave the values, and what holds over two runs holds over both together.
+module _ (P : Values → Values → Type 0) (stays : (v : Values) → P v v) (joins : (u v w : Values) → P u v → P v w → P u w)
+    (commanded : (d next : DeviceState) (rows : List (List ℕ)) → Does d (acted next rows) → P (d .values) (next .values)) (powered : (v : Values) → P v (powerUp v)) where
+  one-values : (s : ReaderState) (m : Moment) → P (s .core .device .values) (afterOne s m .core .device .values)
+  unfolding afterOne startMessage timeOut withCore senderHears powerUpReader
+  one-values s (hears e) = event-values P stays commanded s e
+  one-values s (starts code m) = stays (s .core .device .values)
+  one-values s times-out = stays (s .core .device .values)
+  one-values s powers-up = powered (s .core .device .values)
 
-no-packet-keeps : (c : CoreState) (r : Refusal) (b : Bool) → waits (c .sender) ≡ b → KeepsLocked (c .device .values) (noPacketStep c r .next .device .values)
-unfolding noPacketStep
-no-packet-keeps c r true w = simp w (keeps-same (c .device .values))
-no-packet-keeps c r false w = simp w (keeps-same (c .device .values))
+  run-values : (s : ReaderState) (ms : List Moment) → P (s .core .device .values) (afterAll s ms .core .device .values)
+  unfolding afterAll
+  run-values s [] = stays (s .core .device .values)
+  run-values s (m ∷ ms) =
+      joins (s .core .device .values) (afterOne s m .core .device .values) (afterAll (afterOne s m) ms .core .device .values) (one-values s m) (run-values (afterOne s m) ms)
 
-happens-keeps : {c : CoreState} {d : Done CoreState Output} → Happens c d → KeepsLocked (c .device .values) (d .next .device .values)
-happens-keeps {c} nothing = keeps-same (c .device .values)
-happens-keeps {c} (no-packet r h n) = no-packet-keeps c r (waits (c .sender)) refl
-happens-keeps (packet-heard body o) = outcome-keeps o
-
--- Whatever is heard, what is locked is kept.
-pub event-keeps : (s : ReaderState) (e : Event) → KeepsLocked (s .core .device .values) (readerStep s e .next .core .device .values)
-unfolding readerStep framed
-event-keeps s e = happens-keeps (event-happens s e)
-
-one-keeps : (s : ReaderState) (m : Moment) → KeepsLocked (s .core .device .values) (afterOne s m .core .device .values)
-unfolding afterOne startMessage timeOut withCore senderHears powerUpReader
-one-keeps s (hears e) = event-keeps s e
-one-keeps s (starts code m) = keeps-same (s .core .device .values)
-one-keeps s times-out = keeps-same (s .core .device .values)
-one-keeps s powers-up = power-up-keeps (s .core .device .values)
-
--- A locked parameter keeps its permanent value through every run of events, starts, time-outs and power-ups, and both values where they were equal.
+-- A locked parameter keeps its permanent value through every such run, and both values where they were equal; so it does through every event.
 pub locked-kept : (s : ReaderState) (ms : List Moment) → KeepsLocked (s .core .device .values) (afterAll s ms .core .device .values)
-unfolding afterAll
-locked-kept s [] = keeps-same (s .core .device .values)
-locked-kept s (m ∷ ms) = keeps-then (one-keeps s m) (locked-kept (afterOne s m) ms)
-
-one-allowed : (s : ReaderState) (m : Moment) → AllAllowed (s .core .device .values) → AllAllowed (afterOne s m .core .device .values)
-unfolding afterOne startMessage timeOut withCore senderHears powerUpReader
-one-allowed s (hears e) k = values-allowed s e k
-one-allowed s (starts code m) k = k
-one-allowed s times-out k = k
-one-allowed s powers-up k = powered-up-allowed (s .core .device .values) k
+locked-kept s ms = run-values KeepsLocked keeps-same (λ u v w k m. keeps-then k m) (λ d next rows does. does-keeps does) power-up-keeps s ms
 
 -- Every value stays allowed through every such run.
 pub always-allowed : (s : ReaderState) (ms : List Moment) → AllAllowed (s .core .device .values) → AllAllowed (afterAll s ms .core .device .values)
-unfolding afterAll
-always-allowed s [] k = k
-always-allowed s (m ∷ ms) k = always-allowed (afterOne s m) ms (one-allowed s m k)
+always-allowed s ms k =
+    run-values (λ v v′. AllAllowed v → AllAllowed v′) (λ v a. a) (λ u v w f g a. g (f a)) (λ d next rows does a. does-allowed does a) (λ v a. powered-up-allowed v a) s ms k

@@ -1,4 +1,4 @@
--- The theorems over the reader's definitions: refusals, accepted commands, resent equals, ACK and NAK, allowed values. Assumes nothing.
+-- The theorems over the reader's definitions: refusals, accepted commands, resent equals, ACK and NAK, values. Assumes nothing.
 use Prim.Native.Nat.{ℕ, _+_, _/_, _%_, _≤_}
 use mathlib.Core.Path.{_≡_, refl, sym, _∙_, ap}
 use mathlib.Core.Bool.{Bool, true, false}
@@ -27,11 +27,12 @@ use Rattle.sender.specs.Sender.{Sent, waits, senderStep, heedOf}
 use Rattle.sender.specs.Promises.{nameOf}
 use Rattle.sender.specs.declared.Outcome.the-variants as outcome
 use Rattle.sender.proofs.Theorems.{heard-unrefused}
-use Rattle.table.proofs.Theorems.{AllAllowed}
+use Rattle.table.specs.Table.{Values}
 use Rattle.commands.specs.Commands.{DeviceState, namedBy, lengthAllowed, denied, acted, effect}
 use Rattle.commands.specs.declared.Command.{Command}
 use Rattle.commands.specs.declared.Named.the-variants.{Known}
-use Rattle.commands.proofs.Theorems.{no-answer, does-allowed}
+use Rattle.commands.proofs.Outcomes.{Does}
+use Rattle.commands.proofs.Theorems.{no-answer}
 use Rattle.reader.specs.Reader.{CoreState, ReaderState, Output, refused, repeated, beeped, switched, sent, ifHandshake, refusalAnswer, refuses, noPacketStep, answerTo, acts, commandStep, knownStep, namedStep, judgedStep, senderHears, packetStep, heardStep, readerStep, answered}
 use Rattle.reader.specs.Promises.{toldOf, sentOf}
 use Rattle.reader.specs.declared.Told.the-variants as told
@@ -243,24 +244,26 @@ answers-heeded c body e = simp e
 
 -- ---- values
 
-outcome-allowed : {c : CoreState} {body : List ℕ} {d : Done CoreState Output} → Outcome c body d → AllAllowed (c .device .values) → AllAllowed (d .next .device .values)
-unfolding senderHears acts
-outcome-allowed (heeds h) k = k
-outcome-allowed (turns h n) k = k
-outcome-allowed (repeats e) k = k
-outcome-allowed (acts-on c does) k = does-allowed does k
+-- What holds between the values before and after every command that is acted on, and of values that stay, holds of every event.
+module _ (P : Values → Values → Type 0) (stays : (v : Values) → P v v)
+    (commanded : (d next : DeviceState) (rows : List (List ℕ)) → Does d (acted next rows) → P (d .values) (next .values)) where
+  outcome-values : {c : CoreState} {body : List ℕ} {d : Done CoreState Output} → Outcome c body d → P (c .device .values) (d .next .device .values)
+  unfolding senderHears acts
+  outcome-values {c} (heeds h) = stays (c .device .values)
+  outcome-values {c} (turns h n) = stays (c .device .values)
+  outcome-values {c} (repeats e) = stays (c .device .values)
+  outcome-values {c} (acts-on k {next} {rows} does) = commanded (c .device) next rows does
 
-no-packet-allowed : (c : CoreState) (r : Refusal) (b : Bool) → waits (c .sender) ≡ b → AllAllowed (c .device .values) → AllAllowed (noPacketStep c r .next .device .values)
-unfolding noPacketStep
-no-packet-allowed c r true w k = simp w k
-no-packet-allowed c r false w k = simp w k
+  no-packet-values : (c : CoreState) (r : Refusal) (b : Bool) → waits (c .sender) ≡ b → P (c .device .values) (noPacketStep c r .next .device .values)
+  unfolding noPacketStep
+  no-packet-values c r true w = simp w (stays (c .device .values))
+  no-packet-values c r false w = simp w (stays (c .device .values))
 
-happens-allowed : {c : CoreState} {d : Done CoreState Output} → Happens c d → AllAllowed (c .device .values) → AllAllowed (d .next .device .values)
-happens-allowed nothing k = k
-happens-allowed {c} (no-packet r h n) k = no-packet-allowed c r (waits (c .sender)) refl k
-happens-allowed (packet-heard body o) k = outcome-allowed o k
+  happens-values : {c : CoreState} {d : Done CoreState Output} → Happens c d → P (c .device .values) (d .next .device .values)
+  happens-values {c} nothing = stays (c .device .values)
+  happens-values {c} (no-packet r h n) = no-packet-values c r (waits (c .sender)) refl
+  happens-values (packet-heard body o) = outcome-values o
 
--- Whatever is heard, every value stays allowed.
-pub values-allowed : (s : ReaderState) (e : Event) → AllAllowed (s .core .device .values) → AllAllowed (readerStep s e .next .core .device .values)
-unfolding readerStep framed
-values-allowed s e k = happens-allowed (event-happens s e) k
+  pub event-values : (s : ReaderState) (e : Event) → P (s .core .device .values) (readerStep s e .next .core .device .values)
+  unfolding readerStep framed
+  event-values s e = happens-values (event-happens s e)
