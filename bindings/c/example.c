@@ -82,7 +82,7 @@ static void reader_brings(uint32_t number, size_t value)
         printf("reader: delivered, resends: %zu\n", value);
         delivered = true;
         break;
-    case MK_FAILED: // nobody knows whether the hub has it; a message gap is due before the next one
+    case MK_FAILED: // nobody knows whether the hub has it; the next start tells that a message gap is due
         printf("reader: failed, resends: %zu\n", value);
         break;
     default:
@@ -96,6 +96,23 @@ static void reader_hears(uint32_t event)
     if (told.answer > 0) // to a command; there is none in this story
         transmit(&to_hub, reader.answer, told.answer);
     reader_brings(told.number, told.value);
+}
+
+// Where the start says so, the copy waits until the reader has sent nothing for a message gap, which the hub hears. A
+// firmware does the same before its first message after power-up; this hub is just switched on.
+static void start(const uint8_t *form, size_t count)
+{
+    mk_outcome outcome = mk_reader_send(&reader, CODE_TYPE, form, count);
+    if (outcome.gap)
+        hub_hears(MK_MESSAGE_GAP);
+    reader_brings(outcome.number, outcome.value);
+}
+
+// No answer came within the response time-out.
+static void expire(void)
+{
+    mk_outcome outcome = mk_reader_expire(&reader);
+    reader_brings(outcome.number, outcome.value);
 }
 
 // The form of a table, filled up with blanks so that the 8 is alone in the second packet.
@@ -115,8 +132,7 @@ int main(void)
     mk_reader_init(&reader);
     mk_hub_init(&hub);
 
-    mk_outcome outcome = mk_reader_send(&reader, CODE_TYPE, form, COUNT);
-    reader_brings(outcome.number, outcome.value);
+    start(form, COUNT);
     for (int copies = 1; to_hub.count > 0; copies++) {
         carry(&to_hub, hub_hears);
         if (copies == 2) {
@@ -125,10 +141,8 @@ int main(void)
         }
         bool answered = to_reader.count > 0;
         carry(&to_reader, reader_hears);
-        if (!answered) { // nothing within the response time-out
-            outcome = mk_reader_expire(&reader);
-            reader_brings(outcome.number, outcome.value);
-        }
+        if (!answered)
+            expire();
     }
     return delivered ? 0 : 1;
 }

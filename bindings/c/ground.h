@@ -212,8 +212,12 @@ enum {
     READER_SWITCHES = 53,
     READER_SENDER = 57,
     SENDER_OUT = 0,
+    SENDER_CODE = 1,
     SENDER_FAILED = 2,
-    SENDER_LENGTH = 3, // then three numbers more
+    SENDER_DELIVERED = 3, // the last packet of the message before stands in the buffer
+    SENDER_LENGTH = 4,
+    SENDER_AT = 12,   // where the present piece starts, or that last one
+    SENDER_SIZE = 20, // and how many bytes it has; then resends and marked copies
     NUMBER = 8
 };
 
@@ -222,7 +226,7 @@ static const uint8_t hub_flags[] = {LINE_DEAF, LINE_SECOND, HUB_BARRED, HUB_BEGU
 static const uint8_t reader_flags[] = {LINE_DEAF, LINE_SECOND, READER_LOCKS, READER_LOCKS + 1, READER_LOCKS + 2,
     READER_LOCKS + 3, READER_LOCKS + 4, READER_LOCKS + 5, READER_LOCKS + 6, READER_LOCKS + 7, READER_LOCKS + 8,
     READER_SWITCHES, READER_SWITCHES + 1, READER_SWITCHES + 2, READER_SWITCHES + 3, READER_SENDER + SENDER_OUT,
-    READER_SENDER + SENDER_FAILED, 0};
+    READER_SENDER + SENDER_FAILED, READER_SENDER + SENDER_DELIVERED, 0};
 
 static inline uint64_t number_at(const uint8_t *at)
 {
@@ -377,15 +381,22 @@ static inline bool reader_said(mk_reader_told told, uint32_t number, const char 
     return told.number == number && reads(reader->answer, told.answer, answer);
 }
 
+// With no message gap due before it.
 static inline bool brought(mk_outcome outcome, uint32_t number, size_t value)
 {
-    return outcome.number == number && outcome.value == value;
+    return outcome.number == number && !outcome.gap && outcome.value == value;
+}
+
+// A start: a copy of so many bytes, with a message gap due before it or not.
+static inline bool started(mk_outcome outcome, size_t value, bool gap)
+{
+    return outcome.number == MK_COPY && outcome.gap == gap && outcome.value == value;
 }
 
 // What the reader's sender brought at an event: the same numbers, and no answer.
 static inline mk_outcome of_sender(mk_reader_told told)
 {
-    mk_outcome outcome = {told.number, told.value};
+    mk_outcome outcome = {told.number, false, told.value};
     CHECK(told.answer == 0 && told.beep.count == 0);
     return outcome;
 }

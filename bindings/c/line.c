@@ -7,13 +7,16 @@
 // The relay takes the time of the line: a packet is passed on when its last byte is over at the baud rate. It passes a
 // damaged packet on only if the packet check accepts no part of what is left, else the packet as it came.
 //
+// Some cards are equal to the one before, and their first copies fare badly; some are of equal bytes.
+//
 // What is judged of the cards, and the first that breaks it is named:
 // - handed out are, in order and once each, all cards that the reader calls delivered, with at most some it calls failed
 //   (`judge_handed_out`);
 // - a card is called failed where one of its packets was tried three times and no try was whole both ways, and else
 //   delivered, with the right number of resends (`settle`, `judge_calls`);
-// - each copy is the packet that is due, marked if it is a resend (`took_copy`); each answer is the one that is due, and
-//   nothing else is written (`took_answer`);
+// - each copy is the packet that is due, marked if it is a resend (`took_copy`); a piece that would equal the one
+//   before it is a byte shorter (`cut`); each answer is the one that is due, and nothing else is written
+//   (`took_answer`);
 // - each silence is as long as it has to be, and no longer than it may be (`check_silence`).
 //
 // What is due at a time can fail for a busy machine alone: an answer that is late, a silence that was cut short. Such a
@@ -268,20 +271,46 @@ static struct {
     size_t due_resends, called_resends;
 } cards[CARDS];
 
-static size_t pieces_of(size_t card)
+// Where a piece of a card starts, and how many bytes it has; the last one where there are fewer.
+static size_t cut(size_t card, size_t piece, size_t *from)
 {
-    return cards[card].count == 0 ? 1 : (cards[card].count + PIECE_SIZE - 1) / PIECE_SIZE;
+    const uint8_t *bytes = cards[card].data + 1;
+    size_t size = 0;
+    for (*from = 0;; *from += size, piece--) {
+        size_t before = size, left = cards[card].count - *from;
+        if (left <= PIECE_SIZE)
+            return left;
+        bool alike = before == PIECE_SIZE && memcmp(bytes + *from - PIECE_SIZE, bytes + *from, PIECE_SIZE) == 0;
+        size = alike ? PIECE_SIZE - 1 : PIECE_SIZE;
+        if (piece == 0)
+            return size;
+    }
+}
+
+static bool is_last(size_t card, size_t piece)
+{
+    size_t from, size = cut(card, piece, &from);
+    return from + size == cards[card].count;
 }
 
 static size_t packet_of(size_t card, size_t piece, bool marked, uint8_t *packet)
 {
     uint8_t data[MK_DATA_SIZE];
-    size_t from = piece * PIECE_SIZE, left = cards[card].count - from;
-    size_t count = left < PIECE_SIZE ? left : PIECE_SIZE;
+    size_t from, size = cut(card, piece, &from);
     data[0] = cards[card].data[0];
-    memcpy(data + 1, cards[card].data + 1 + from, count);
-    uint8_t status = (uint8_t)((marked ? MK_STATUS_RESEND : 0) | (left > PIECE_SIZE ? MK_STATUS_MORE : 0));
-    return make_packet(packet, MK_OPCODE_DECODE_DATA, MK_SOURCE_READER, status, data, 1 + count);
+    memcpy(data + 1, cards[card].data + 1 + from, size);
+    uint8_t status = (uint8_t)((marked ? MK_STATUS_RESEND : 0) | (is_last(card, piece) ? 0 : MK_STATUS_MORE));
+    return make_packet(packet, MK_OPCODE_DECODE_DATA, MK_SOURCE_READER, status, data, 1 + size);
+}
+
+// Whether a card begins with the last packet of the one before.
+static bool begins_alike(size_t card)
+{
+    uint8_t before[MK_PACKET_SIZE], packet[MK_PACKET_SIZE];
+    if (card == 0)
+        return false;
+    size_t last = packet_of(card - 1, SIZE_MAX, false, before);
+    return packet_of(card, 0, false, packet) == last && memcmp(packet, before, last) == 0;
 }
 
 static size_t draw_count(void)
@@ -299,43 +328,29 @@ static size_t draw_count(void)
     }
 }
 
-// Now and then the card before the last one, once more.
+// Now and then the card before once more, or the one before that; now and then all bytes are equal.
 static void draw_card(size_t card)
 {
-    if (card > 1 && below(12) == 0) {
-        memcpy(&cards[card], &cards[card - 2], sizeof *cards);
+    size_t back = 1 + below(2);
+    if (card >= back && below(10) == 0) {
+        memcpy(&cards[card], &cards[card - back], sizeof *cards);
         return;
     }
     cards[card].count = draw_count();
     cards[card].data[0] = (uint8_t)(0x1B + below(3));
+    if (below(4) == 0) {
+        memset(cards[card].data + 1, '8', cards[card].count);
+        return;
+    }
     for (size_t i = 1; i <= cards[card].count; i++)
         cards[card].data[i] = any_byte();
-}
-
-// Neighbours on the line are not equal, neither in a card nor between it and the one before.
-static bool is_apart(size_t card)
-{
-    uint8_t before[MK_PACKET_SIZE], packet[MK_PACKET_SIZE];
-    size_t last = 0;
-    if (card > 0)
-        last = packet_of(card - 1, pieces_of(card - 1) - 1, false, before);
-    for (size_t piece = 0; piece < pieces_of(card); piece++) {
-        size_t size = packet_of(card, piece, false, packet);
-        if (size == last && memcmp(packet, before, size) == 0)
-            return false;
-        memcpy(before, packet, last = size);
-    }
-    return true;
 }
 
 static void draw_cards(void)
 {
     memset(cards, 0, sizeof cards);
-    for (size_t card = 0; card < CARDS; card++) {
-        do {
-            draw_card(card);
-        } while (!is_apart(card));
-    }
+    for (size_t card = 0; card < CARDS; card++)
+        draw_card(card);
 }
 
 // `tt bb ..`, as in a card for the reader and in a line of the hub.
@@ -363,6 +378,7 @@ static int cards_file(void)
 
 static struct {
     size_t copies, resends, repeats, far_repeats, lost, changed, looked;
+    size_t alike, alike_lost, cut; // cards that begin alike, how often their first copy was not whole; cut pieces
 } counts;
 
 static bool rough; // it is bad for a while, then good again
@@ -470,6 +486,7 @@ static struct {
     bool had;                  // the hub has this packet
     bool answer_due;
     bool gap_due;              // a message gap before the next copy
+    bool alike;                // this card begins with the last packet of the one before, which was delivered
     bool behind_gap;           // the hub has heard nothing since a message gap
     int64_t heard;             // when it heard something last
 } due;
@@ -480,7 +497,8 @@ static void next_card(char called)
     cards[due.card].due_resends = due.marked;
     due.card++;
     due.piece = due.marked = 0;
-    due.gap_due = called == 'F';
+    due.alike = called == 'D' && due.card < CARDS && begins_alike(due.card);
+    due.gap_due = called == 'F' || due.alike;
 }
 
 // The last copy is answered or not, in time: what that makes due. A packet is done with copy and answer whole; a card
@@ -494,8 +512,10 @@ static void settle(void)
     due.had = false;
     if (!done)
         next_card('F');
-    else if (++due.piece == pieces_of(due.card))
+    else if (is_last(due.card, due.piece))
         next_card('D');
+    else
+        due.piece++;
 }
 
 static const char *hex(const uint8_t *bytes, size_t count)
@@ -541,6 +561,7 @@ static void took_copy(void)
     due.gap_due = false;
     counts.copies++;
     counts.resends += due.tries > 0;
+    counts.cut += due.tries == 0 && !is_last(due.card, due.piece) && size < MK_PACKET_SIZE;
     due.marked += due.tries > 0;
     due.tries++;
     due.answered = due.whole = false;
@@ -548,16 +569,19 @@ static void took_copy(void)
 
 static void pass_copy(void)
 {
-    static const badness bad = {4, 60, 15};
+    static const badness bad = {4, 60, 15}, worse = {60, 60, 60};
     uint8_t bytes[MK_PACKET_SIZE];
-    size_t left = carry(down.packet, down.count, bad, bytes);
+    bool first_alike = due.alike && due.tries == 1;
+    size_t left = carry(down.packet, down.count, first_alike ? worse : bad, bytes);
     int64_t silence = now() - due.heard;
     if (left > 0 && !due.behind_gap && silence > message_gap(TIME_OUT))
         rule(UNTIMELY, "card %zu: %d ms of silence at the hub inside a message", due.card + 1, in_ms(silence));
     put(&the_hub, bytes, left);
     due.whole = left == down.count && memcmp(bytes, down.packet, left) == 0;
+    counts.alike += first_alike;
+    counts.alike_lost += first_alike && !due.whole;
     counts.repeats += due.whole && due.had;
-    counts.far_repeats += due.whole && due.had && silence > 2 * TIME_OUT;
+    counts.far_repeats += due.whole && due.had && silence > 2 * TIME_OUT - SLACK;
     due.had |= due.whole;
     due.answer_due = left > 0;
     if (left > 0) {
@@ -682,13 +706,16 @@ static void judge_counts(void)
     if (verdict.how != RUNNING)
         return;
     printf("line: %d cards, %zu delivered, %zu failed, %zu handed out; %zu copies, %zu resends, %zu repeats (%zu behind "
-           "two time-outs); %zu bytes lost, %zu changed; %zu packets left whole\n",
+           "two time-outs); %zu bytes lost, %zu changed; %zu packets left whole; %zu cards begin alike, %zu of their "
+           "first copies lost; %zu pieces cut\n",
         CARDS, CARDS - failed, failed, handed_out, counts.copies, counts.resends, counts.repeats, counts.far_repeats,
-        counts.lost, counts.changed, counts.looked);
+        counts.lost, counts.changed, counts.looked, counts.alike, counts.alike_lost, counts.cut);
     if (failed == 0 || handed_out <= CARDS - failed || handed_out == CARDS || counts.resends == 0 || counts.lost == 0 ||
-        counts.repeats == counts.far_repeats || counts.far_repeats == 0 || counts.changed == 0 || counts.looked == 0)
+        counts.repeats == counts.far_repeats || counts.far_repeats == 0 || counts.changed == 0 || counts.looked == 0 ||
+        counts.alike == counts.alike_lost || counts.alike_lost == 0 || counts.cut == 0)
         rule(WRONG, "the seed does not bring all of these: failed cards that were handed out and that were not, "
-                    "resends, repeats behind one and two time-outs, bytes lost and changed, packets left whole");
+                    "resends, repeats behind one and two time-outs, bytes lost and changed, packets left whole, first "
+                    "copies of cards that begin alike whole and lost, pieces cut");
 }
 
 // ---- 200 cards
@@ -899,21 +926,28 @@ static void start_hub(const char *tenths)
     silent_since = now();
 }
 
-// A message gap before the first card, and before one that equals the one before it, whose first copy is lost.
+// A message gap before the first card, and before one that equals the one before it, whose first copy is lost; an ACK
+// and a command that come in that gap are not heard. None before a card of another type.
 static void equal_cards(void)
 {
     int64_t gap = message_gap(TIME_OUT);
-    start_reader("8", text_file("S 1B 38 ;\nS 1b \"8\" ;"));
+    start_reader("8", text_file("S 1B 38 ;\nS 1b \"8\" ; S 1C 38 ;"));
     hear_packet(&the_reader, PIECE, gap - SLACK, gap + GAP + DELAY);
     put_text(&the_reader, HUB_ACK);
     hear_line(&the_reader, "C " PIECE);
     hear_line(&the_reader, "D 0");
+    hear_line(&the_reader, "I");
+    put_text(&the_reader, HUB_ACK "05 E6 04 00 01 FF 10");
     hear_packet(&the_reader, PIECE, gap, gap + GAP + DELAY);
     hear_packet(&the_reader, MARKED_PIECE, TIME_OUT - SLACK, TIME_OUT + DELAY);
     put_text(&the_reader, HUB_ACK);
     hear_line(&the_reader, "C " PIECE);
     hear_line(&the_reader, "C " MARKED_PIECE);
     hear_line(&the_reader, "D 1");
+    hear_packet(&the_reader, "06 F3 00 00 1C 38 FE B3", GAP, TIME_OUT);
+    put_text(&the_reader, HUB_ACK);
+    hear_line(&the_reader, "C 06 F3 00 00 1C 38 FE B3");
+    hear_line(&the_reader, "D 0");
     expect_status(&the_reader, 0);
 }
 

@@ -1,10 +1,12 @@
 // Motikhund for C: the serial protocol core of a card reader and of the hub behind it, in Simple Serial Interface
 // (SSI).
 //
-// A reader sends what it read as a message: a code type and 0 to 4,096 bytes, cut into pieces of up to 250 bytes
-// with a packet each. The hub answers each packet with ACK or NAK and joins the pieces. Where no answer comes, the
-// reader sends the packet again with a resend mark; a hub that has it already acknowledges it and does not add it
-// twice. The other way, a host (the hub's side) sends commands to the reader: beeps, LED, aim, session, parameters.
+// A reader sends what it read as a message: a code type and 0 to 4,096 bytes, cut into pieces of up to 250 bytes with a
+// packet each. The hub answers each packet with ACK or NAK and joins the pieces. Where no answer comes, the reader
+// sends the packet again with a resend mark; a hub that has it already acknowledges it and does not add it twice. So
+// that a packet is never taken for a resend of an equal one before it, a piece that would equal the one before it is
+// cut one byte shorter, and a start says where a message gap is due. The other way, a host (the hub's side) sends
+// commands to the reader: beeps, LED, aim, session, parameters.
 //
 // You bring the serial port and the clock. What happens on the line goes in as events, one at a time: a byte, a
 // character gap (a silence that ends a packet) or a message gap (a longer one, at which a hub forgets all that came
@@ -60,9 +62,14 @@
 // - At MK_MESSAGE the message is whole in its room, and its ACK is not yet sent. Send it, then do slow work. Where
 //   filing surely ends before the time-out, file first: then a power cut loses nothing that was called delivered.
 // - Both ends keep silent for a character gap after all that they send. A reader keeps silent for a message gap before
-//   its first message after power-up, and before one that follows a failed one or begins with a packet equal to the
-//   one before it: were the first copy of such a packet lost, the hub would take its resend for one of the packet
-//   before. Two equal pieces in a row inside one message are open to the same mistake.
+//   the first copy of a message in just two cases: where the start says that one is due (mk_outcome.gap), and before
+//   the first message after power-up, as power-up forgets what a start says it by. A start says it after a failed
+//   message, as the hub may hold pieces of that one; and where the message is one packet, equal to the one sent before
+//   it: were its first copy lost, the hub would take the resend for one of the packet before. No packets need be
+//   compared for it, and two equal cards in a row come out as two.
+// - That silence counts from the last byte that the reader sent, whatever it was: where that is long ago, nothing is
+//   left to wait. The message is out already. So while it waits the reader drops what it hears, as while it sends: an
+//   ACK would count for a packet that nobody has seen, and an answer to a command would end the silence.
 // - MK_DELIVERED: the hub has the message. MK_FAILED: it may have it all the same, and only its answers were lost.
 // - A silence that grows may be given again. A second character gap does nothing. A message gap behind a character gap
 //   does what it does alone, and a second message gap nothing more. So a timer that fires twice does no harm.
@@ -82,8 +89,8 @@
 // with each change of what stands where in a control value, the patch with every other landing. So whoever stores a
 // control value stores MK_VERSION_NUMBER with it, and puts it back only where MK_VERSION_NUMBER / 100 is the same;
 // else it is initialised anew.
-#define MK_VERSION "0.3.0"
-#define MK_VERSION_NUMBER 300
+#define MK_VERSION "0.4.0"
+#define MK_VERSION_NUMBER 400
 
 #ifdef __cplusplus
 #define MK_ASSERT(truth, why) static_assert(truth, why)
@@ -102,19 +109,19 @@ MK_ASSERT(sizeof(size_t) == 8, "the archive is for x86-64 Linux");
 
 // Sizes in bytes. A call that is lent less gives MK_ROOM.
 enum {
-    MK_FRAMER_CONTROL_SIZE = 9,  // a framer's control value
-    MK_HUB_CONTROL_SIZE = 29,    // a hub's
-    MK_SENDER_CONTROL_SIZE = 35, // a sender's
-    MK_READER_CONTROL_SIZE = 92, // a reader's
-    MK_GOING_SIZE = 10,          // the front of a hub's or a reader's, for mk_go_on
-    MK_PACKET_SIZE = 257,        // the longest packet with its checksum: building, a framer's line, a copy
-    MK_LINE_SIZE = 514,          // the line of hub and reader: the packet that comes in, and the last accepted one
-    MK_MESSAGE_SIZE = 4096,      // the longest message, its code type not counted
-    MK_ANSWER_SIZE = 7,          // the longest ACK or NAK
-    MK_HUB_ANSWER_SIZE = 7,      // a hub's answer room
-    MK_READER_ANSWER_SIZE = 25,  // a reader's longest answer: a PARAM_SEND with all nine parameters
-    MK_SET_SIZE = 30,            // the longest form of a saved set: all nine parameters are locked
-    MK_DATA_SIZE = 251           // the most data in a packet
+    MK_FRAMER_CONTROL_SIZE = 9,   // a framer's control value
+    MK_HUB_CONTROL_SIZE = 29,     // a hub's
+    MK_SENDER_CONTROL_SIZE = 44,  // a sender's
+    MK_READER_CONTROL_SIZE = 101, // a reader's
+    MK_GOING_SIZE = 10,           // the front of a hub's or a reader's, for mk_go_on
+    MK_PACKET_SIZE = 257,         // the longest packet with its checksum: building, a framer's line, a copy
+    MK_LINE_SIZE = 514,           // the line of hub and reader: the packet that comes in, and the last accepted one
+    MK_MESSAGE_SIZE = 4096,       // the longest message, its code type not counted
+    MK_ANSWER_SIZE = 7,           // the longest ACK or NAK
+    MK_HUB_ANSWER_SIZE = 7,       // a hub's answer room
+    MK_READER_ANSWER_SIZE = 25,   // a reader's longest answer: a PARAM_SEND with all nine parameters
+    MK_SET_SIZE = 30,             // the longest form of a saved set: all nine parameters are locked
+    MK_DATA_SIZE = 251            // the most data in a packet
 };
 
 // Events on a line.
@@ -306,6 +313,12 @@ enum {
     MK_HUB_VALUE_COUNT = 2,  // MK_MESSAGE: so many bytes of the message room
     MK_HUB_VALUES = 3
 };
+// Of mk_sender_start and mk_reader_start:
+enum {
+    MK_START_VALUE_SIZE = 0, // MK_COPY: so many bytes of the room are to be sent
+    MK_START_VALUE_GAP = 1,  // MK_COPY: 1 where a message gap is due before this copy, else 0
+    MK_START_VALUES = 2
+};
 // Of mk_reader_hear:
 enum {
     MK_READER_VALUE_ANSWER = 0,    // so many bytes of the answer room are to be sent
@@ -329,8 +342,14 @@ enum {
 // ---- the calls of the archive
 //
 // A control value is all that a machine remembers beside its buffers. It stands in bytes of yours, and any bytes are
-// one: a flag's byte that is not 1 is read as not set, a count that a buffer cannot have as 0. Where a call asks for a
-// size, more may be lent; bytes past what is written stay as they were.
+// one: a flag's byte that is not 1 is read as not set, a count that a buffer cannot have as 0, and a sender's that no
+// run leaves as one with nothing out and no packet before. Where a call asks for a size, more may be lent; bytes past
+// what is written stay as they were.
+//
+// A machine's buffers are its own between calls, also where nothing is begun or out: a hub's line and gather, a
+// reader's line and answers, and the buffer of a sender or a reader, in which the message stands while it is out, and
+// its last packet until the next start. Whoever writes into that one with nothing out can only make a start tell a
+// message gap that is not due, or none where one is. What goes out to you (answer, copy, the hub's message) is yours.
 //
 // With MK_ROOM, MK_START and MK_FORM nothing is changed but the numbers told (head, size, value, values), which are 0;
 // they are 0 too where a result has none. With any other refusal of an event only its answer, the byte that came in the
@@ -387,18 +406,24 @@ uint32_t mk_hub_hear(uint8_t *control, size_t control_len, uint8_t line[MK_LINE_
     uint8_t *answer, size_t answer_len, uint8_t *message, size_t message_len, uint32_t event,
     size_t values[MK_HUB_VALUES]);
 
-// Makes a sender's control value (MK_SENDER_CONTROL_SIZE): nothing out; failed says whether the message before
-// failed, so that a message gap is due. MK_NOTHING, or MK_ROOM.
+// Makes a sender's control value (MK_SENDER_CONTROL_SIZE): nothing out, no packet before it; failed says whether the
+// message before failed, so that a message gap is due. MK_NOTHING, or MK_ROOM.
 uint32_t mk_sender_idle(uint8_t *control, size_t control_len, bool failed);
 
-// Starts a message, which is copied into the buffer. MK_COPY: the first packet stands in the room (MK_PACKET_SIZE),
-// value is its size. Or MK_ROOM, MK_START.
+// Starts a message, which is copied into the buffer. MK_COPY: the first packet stands in the room (MK_PACKET_SIZE); the
+// values are MK_START_VALUE_..: its size, and whether a message gap is due before it. One is after a message that
+// failed, and where this packet equals the last one of the message before, which was delivered: so where the whole
+// message is that packet's piece, and its code type that packet's. What a reader answered to commands between them is
+// not asked. Or MK_ROOM, MK_START, which say nothing of a gap and forget nothing.
 uint32_t mk_sender_start(uint8_t *control, size_t control_len, uint8_t buffer[MK_MESSAGE_SIZE], uint8_t *room,
-    size_t room_len, uint8_t code, const uint8_t *message, size_t message_len, size_t *value);
+    size_t room_len, uint8_t code, const uint8_t *message, size_t message_len, size_t values[MK_START_VALUES]);
 
 // One thing heard of the host: MK_HEARD_ACK, a NAK's cause, MK_HEARD_TIME_OUT. MK_COPY and the packet's size: the next
 // one, or the same marked, at most twice. MK_DELIVERED or MK_FAILED and the message's marked copies, all its packets
 // together. MK_NOTHING, or MK_ROOM.
+//
+// A piece has 250 bytes, and 249 where those 250 would equal the piece before it; the last one is the rest, once that
+// is at most 250. So 750 equal bytes are 250, 249, 250 and 1, and 4,096 bytes are 17 pieces, whatever they are.
 uint32_t mk_sender_hear(uint8_t *control, size_t control_len, const uint8_t buffer[MK_MESSAGE_SIZE], uint8_t *room,
     size_t room_len, uint32_t heard, size_t *value);
 
@@ -409,16 +434,17 @@ uint32_t mk_sender_waits(const uint8_t *control, size_t control_len);
 uint32_t mk_sender_heed(uint8_t opcode, uint8_t source, uint8_t status, const uint8_t *data, size_t data_len);
 
 // Makes a reader's control value (MK_READER_CONTROL_SIZE): switched on, house defaults. A message gap is due before the
-// first message. MK_NOTHING, or MK_ROOM.
+// first message, though its start tells none. MK_NOTHING, or MK_ROOM.
 uint32_t mk_reader_on(uint8_t *control, size_t control_len);
 
 // Power-up: parameters get their permanent values, locks stay, and all that came or was out is forgotten, also whether
-// the message before failed: so a message gap is due before the first message after it. MK_NOTHING, or MK_ROOM.
+// the message before failed and what its last packet was. So the first start after it tells no gap, and a message gap
+// is due before that message all the same. MK_NOTHING, or MK_ROOM.
 uint32_t mk_reader_power_up(uint8_t *control, size_t control_len);
 
 // As mk_sender_start, by the reader's sender.
 uint32_t mk_reader_start(uint8_t *control, size_t control_len, uint8_t message[MK_MESSAGE_SIZE], uint8_t *copy,
-    size_t copy_len, uint8_t code, const uint8_t *bytes, size_t bytes_len, size_t *value);
+    size_t copy_len, uint8_t code, const uint8_t *bytes, size_t bytes_len, size_t values[MK_START_VALUES]);
 
 // As mk_sender_hear with MK_HEARD_TIME_OUT, by the reader's sender.
 uint32_t mk_reader_time_out(uint8_t *control, size_t control_len, const uint8_t message[MK_MESSAGE_SIZE], uint8_t *copy,
@@ -439,8 +465,8 @@ uint32_t mk_reader_save(const uint8_t *control, size_t control_len, uint8_t *roo
 
 // Reads the form of a set, of just so many bytes. MK_NOTHING: its values are the permanent and the present ones, its
 // locks the only ones, and the last accepted packet is forgotten, so that a marked repeat of it is a command like any
-// other. All else stays: a packet begun, a message out, what is switched on. Nothing goes out on the line. Or, in this
-// order, MK_FORM; MK_ROOM.
+// other. All else stays: a packet begun, a message out, what a start tells of a gap, what is switched on. Nothing goes
+// out on the line. Or, in this order, MK_FORM; MK_ROOM.
 uint32_t mk_reader_load(uint8_t *control, size_t control_len, const uint8_t *form, size_t form_len);
 
 // Whether a parameter is locked, 1 or 0; 0 where there is no such parameter. Only a set locks and unlocks. A PARAM_SEND
@@ -539,17 +565,18 @@ static inline mk_found mk_framer_event(mk_framer *framer, uint32_t event)
     return told;
 }
 
-// A sender alone: 4,388 bytes. Whoever owns the line hears ACK and NAK (mk_sender_heed) and keeps the time.
+// A sender alone: 4,397 bytes. Whoever owns the line hears ACK and NAK (mk_sender_heed) and keeps the time.
 typedef struct {
     uint8_t control[MK_SENDER_CONTROL_SIZE];
-    uint8_t message[MK_MESSAGE_SIZE];
-    uint8_t copy[MK_PACKET_SIZE]; // MK_COPY: the packet to be sent
+    uint8_t message[MK_MESSAGE_SIZE]; // the sender's own, also with nothing out
+    uint8_t copy[MK_PACKET_SIZE];     // MK_COPY: the packet to be sent
 } mk_sender;
-MK_ASSERT(sizeof(mk_sender) == 4388 && MK_ALIGNMENT(mk_sender) == 1, "mk_sender");
+MK_ASSERT(sizeof(mk_sender) == 4397 && MK_ALIGNMENT(mk_sender) == 1, "mk_sender");
 
 // What a call brought a sender, alone or in a reader.
 typedef struct {
     uint32_t number; // MK_COPY, MK_DELIVERED, MK_FAILED, MK_NOTHING or MK_START
+    bool gap;        // MK_COPY of a start: a message gap is due before it
     size_t value;    // MK_COPY: so many bytes are to be sent; MK_DELIVERED, MK_FAILED: the message's marked copies
 } mk_outcome;
 MK_ASSERT(sizeof(mk_outcome) == 16, "mk_outcome");
@@ -559,12 +586,15 @@ static inline void mk_sender_init(mk_sender *sender)
     mk_sender_idle(sender->control, sizeof sender->control, false);
 }
 
-// Starts a message.
+// Starts a message. Where it tells a gap, its copy waits until you have sent nothing for a message gap.
 static inline mk_outcome mk_sender_send(mk_sender *sender, uint8_t code, const uint8_t *bytes, size_t count)
 {
+    size_t values[MK_START_VALUES];
     mk_outcome outcome;
     outcome.number = mk_sender_start(sender->control, sizeof sender->control, sender->message, sender->copy,
-        sizeof sender->copy, code, bytes, count, &outcome.value);
+        sizeof sender->copy, code, bytes, count, values);
+    outcome.gap = values[MK_START_VALUE_GAP] == 1;
+    outcome.value = values[MK_START_VALUE_SIZE];
     return outcome;
 }
 
@@ -572,6 +602,7 @@ static inline mk_outcome mk_sender_send(mk_sender *sender, uint8_t code, const u
 static inline mk_outcome mk_sender_heard(mk_sender *sender, uint32_t heard)
 {
     mk_outcome outcome;
+    outcome.gap = false;
     outcome.number = mk_sender_hear(sender->control, sizeof sender->control, sender->message, sender->copy,
         sizeof sender->copy, heard, &outcome.value);
     return outcome;
@@ -583,17 +614,17 @@ static inline bool mk_sender_out(const mk_sender *sender)
     return mk_sender_waits(sender->control, sizeof sender->control) == MK_OUT;
 }
 
-// The reader's whole end: framer, commands with the parameters, sender. 5,009 bytes. mk_reader_save, mk_reader_load and
+// The reader's whole end: framer, commands with the parameters, sender. 5,018 bytes. mk_reader_save, mk_reader_load and
 // mk_reader_locked take its control value as it stands here.
 typedef struct {
     uint8_t control[MK_READER_CONTROL_SIZE];
     uint8_t line[MK_LINE_SIZE];
     uint8_t answers[MK_READER_ANSWER_SIZE];
-    uint8_t message[MK_MESSAGE_SIZE];
+    uint8_t message[MK_MESSAGE_SIZE];      // the reader's own, also with nothing out
     uint8_t answer[MK_READER_ANSWER_SIZE]; // to be sent: so many bytes as told
     uint8_t copy[MK_PACKET_SIZE];          // MK_COPY: the packet to be sent
 } mk_reader;
-MK_ASSERT(sizeof(mk_reader) == 5009 && MK_ALIGNMENT(mk_reader) == 1, "mk_reader");
+MK_ASSERT(sizeof(mk_reader) == 5018 && MK_ALIGNMENT(mk_reader) == 1, "mk_reader");
 
 // A sound to be made; with a count of 0 there is none.
 typedef struct {
@@ -622,14 +653,15 @@ typedef struct {
 } mk_switches;
 MK_ASSERT(sizeof(mk_switches) == 4, "mk_switches");
 
-// The house defaults, nothing locked, nothing out. A message gap is due before the first message.
+// The house defaults, nothing locked, nothing out. A message gap is due before the first message, though its start
+// tells none.
 static inline void mk_reader_init(mk_reader *reader)
 {
     mk_reader_on(reader->control, sizeof reader->control);
 }
 
 // Power-up: the permanent values of the parameters come back, locks stay, all else is as new. A message gap is due
-// before the first message after it.
+// before the first message after it, though its start tells none.
 static inline void mk_reader_restart(mk_reader *reader)
 {
     mk_reader_power_up(reader->control, sizeof reader->control);
@@ -652,12 +684,15 @@ static inline mk_reader_told mk_reader_event(mk_reader *reader, uint32_t event)
     return told;
 }
 
-// Starts a message.
+// Starts a message. Where it tells a gap, its copy waits until you have sent nothing for a message gap.
 static inline mk_outcome mk_reader_send(mk_reader *reader, uint8_t code, const uint8_t *bytes, size_t count)
 {
+    size_t values[MK_START_VALUES];
     mk_outcome outcome;
     outcome.number = mk_reader_start(reader->control, sizeof reader->control, reader->message, reader->copy,
-        sizeof reader->copy, code, bytes, count, &outcome.value);
+        sizeof reader->copy, code, bytes, count, values);
+    outcome.gap = values[MK_START_VALUE_GAP] == 1;
+    outcome.value = values[MK_START_VALUE_SIZE];
     return outcome;
 }
 
@@ -666,6 +701,7 @@ static inline mk_outcome mk_reader_send(mk_reader *reader, uint8_t code, const u
 static inline mk_outcome mk_reader_expire(mk_reader *reader)
 {
     mk_outcome outcome;
+    outcome.gap = false;
     outcome.number = mk_reader_time_out(reader->control, sizeof reader->control, reader->message, reader->copy,
         sizeof reader->copy, &outcome.value);
     return outcome;

@@ -150,12 +150,12 @@ static const asking askings[] = {
     {"mk_hub_on", hub_on_in, {MK_HUB_CONTROL_SIZE, 0, 0}, 0},
     {"mk_hub_hear", hub_hear_in, {MK_HUB_CONTROL_SIZE, MK_HUB_ANSWER_SIZE, MK_MESSAGE_SIZE}, MK_HUB_VALUES},
     {"mk_sender_idle", sender_idle_in, {MK_SENDER_CONTROL_SIZE, 0, 0}, 0},
-    {"mk_sender_start", sender_start_in, {MK_SENDER_CONTROL_SIZE, MK_PACKET_SIZE, 0}, 1},
+    {"mk_sender_start", sender_start_in, {MK_SENDER_CONTROL_SIZE, MK_PACKET_SIZE, 0}, MK_START_VALUES},
     {"mk_sender_hear", sender_hear_in, {MK_SENDER_CONTROL_SIZE, MK_PACKET_SIZE, 0}, 1},
     {"mk_sender_waits", sender_waits_in, {MK_SENDER_CONTROL_SIZE, 0, 0}, 0},
     {"mk_reader_on", reader_on_in, {MK_READER_CONTROL_SIZE, 0, 0}, 0},
     {"mk_reader_power_up", reader_power_up_in, {MK_READER_CONTROL_SIZE, 0, 0}, 0},
-    {"mk_reader_start", reader_start_in, {MK_READER_CONTROL_SIZE, MK_PACKET_SIZE, 0}, 1},
+    {"mk_reader_start", reader_start_in, {MK_READER_CONTROL_SIZE, MK_PACKET_SIZE, 0}, MK_START_VALUES},
     {"mk_reader_time_out", reader_time_out_in, {MK_READER_CONTROL_SIZE, MK_PACKET_SIZE, 0}, 1},
     {"mk_reader_hear", reader_hear_in, {MK_READER_CONTROL_SIZE, MK_READER_ANSWER_SIZE, MK_PACKET_SIZE},
         MK_READER_VALUES},
@@ -276,8 +276,9 @@ static void set_locked(uint8_t *control)
 static void set_out(uint8_t *control)
 {
     control[SENDER_OUT] = 1;
+    memset(control + SENDER_LENGTH, 0, 5 * NUMBER);
     put_number(control + SENDER_LENGTH, 1);
-    memset(control + SENDER_LENGTH + NUMBER, 0, 3 * NUMBER);
+    put_number(control + SENDER_SIZE, 1);
 }
 
 // A number over its limit is 0.
@@ -544,7 +545,7 @@ static void start_refuses(
     if (way > 0)
         set_out(control);
     remember();
-    due_values(1, 0);
+    due_values(MK_START_VALUES, 0);
     CHECK(start(way < 2 ? MK_MESSAGE_SIZE + 1 : 1) == MK_START);
     CHECK(nothing_changed());
 }
@@ -627,13 +628,19 @@ static void test_total(void)
     }
 }
 
-// Number 11: over 4,096 bytes, and one still out. Nothing changes.
+// Number 11: over 4,096 bytes, and one still out. Nothing changes, and no gap is told, though one is due.
 static void test_refused_starts(void)
 {
+    mk_sender_idle(sender->control, sizeof sender->control, true);
+    reader->control[READER_SENDER + SENDER_FAILED] = 1;
     remember();
     CHECK(brought(mk_sender_send(sender, 0x1B, message, 4097), MK_START, 0));
     CHECK(brought(mk_reader_send(reader, 0x1B, message, 4097), MK_START, 0));
     CHECK(nothing_changed() && !mk_sender_out(sender));
+    CHECK(started(mk_sender_send(sender, 0x1B, message, 1), 8, true));
+    CHECK(started(mk_reader_send(reader, 0x1B, message, 1), 8, true));
+    mk_sender_init(sender);
+    mk_reader_restart(reader);
     CHECK(brought(mk_sender_send(sender, 0x1B, message, 1), MK_COPY, 8));
     CHECK(brought(mk_reader_send(reader, 0x1B, message, 1), MK_COPY, 8));
     remember();

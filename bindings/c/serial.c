@@ -10,6 +10,8 @@
 // - An answer goes out in time or not at all. The hub reckons from the last moment at which nothing had come, so that
 //   it also knows that it is late where it was stopped.
 // - A reader hears nothing while it sends, and what came in one lump with an ACK is no answer to the next copy.
+// - A start says where a message gap is due. It is kept before the copy and counts from the last byte that was sent.
+//   What comes meanwhile is dropped: an ACK would count for the copy that is not out, an answer would end the silence.
 // - When the last byte of what was written is out is reckoned from the baud rate: write returns long before that, and a
 //   wait for the driver (tcdrain) may return after the answer has come.
 // - The answer is sent first; lines are written behind it, as a terminal or a pipe may hold them up. So is the saved
@@ -69,6 +71,7 @@ static const char help[] =
     "    M tt bb ..       hub: a message is handed out: its code type, then its bytes\n"
     "    B d p c          reader: a beep: duration, pitch, number of beeps\n"
     "    G e s a l        reader: after a command: scanning enabled, session, aim, LED; each 0 or 1\n"
+    "    I                reader: a message gap is due before the copy that follows, and is kept\n"
     "    C bb ..          reader: a copy of a packet goes out\n"
     "    D n              reader: the card is delivered; n is the number of marked copies\n"
     "    F n              reader: the card has failed; n as above\n"
@@ -81,8 +84,10 @@ static const char help[] =
     "busy machine longer. So the character gap is 50 ms and the time of 16 bytes, and either end is silent\n"
     "for two of them after all that it sends. The time-out is 9Bh, but never less than an answer takes:\n"
     "delay, 7 bytes and two gaps. The message gap is longer than two lost copies with their time-outs take:\n"
-    "6.7 s at 9600 baud with 9Bh at 20. Give both ends the same BAUD and options. Before a host raises\n"
-    "9Bh, start the hub again with that --time-out.\n";
+    "6.7 s at 9600 baud with 9Bh at 20. The reader keeps it before its first card, before the first one\n"
+    "behind P, and where a start tells it (I): behind a failed card, and before a card that is one packet\n"
+    "and equals the packet before it. There it hears nothing until the copy is out. Give both ends the same\n"
+    "BAUD and options. Before a host raises 9Bh, start the hub again with that --time-out.\n";
 
 // ---- what was asked for
 
@@ -460,11 +465,10 @@ static void run_hub(void)
 static mk_reader reader;
 
 static struct {
-    bool waits;                   // a card is out
-    bool gap_due;                 // a message gap before the next one: at first, behind a failed one and power-up
-    int64_t expires;              // the time-out of the last copy
-    uint8_t copy[MK_PACKET_SIZE]; // the last copy
-} sender = {.gap_due = true};
+    bool waits;      // a card is out
+    bool powered_up; // and no card was sent since: a message gap is due that no start tells
+    int64_t expires; // the time-out of the last copy
+} sender = {.powered_up = true};
 
 static struct {
     bool ready;
@@ -508,8 +512,6 @@ static void reader_sent(mk_outcome sent)
     switch (sent.number) {
     case MK_COPY:
         bytes_line('C', reader.copy, sent.value);
-        memcpy(sender.copy, reader.copy, sent.value);
-        sender.waits = true;
         reader_sends(reader.copy, sent.value);
         sender.expires = line.out + time_out(parameter(MK_PARAMETER_RESPONSE_TIME_OUT));
         break;
@@ -517,7 +519,6 @@ static void reader_sent(mk_outcome sent)
     case MK_FAILED:
         printf("%c %zu\n", sent.number == MK_DELIVERED ? 'D' : 'F', sent.value);
         sender.waits = false;
-        sender.gap_due = sent.number == MK_FAILED;
         break;
     default:
         break;
@@ -578,7 +579,7 @@ static void reader_takes(uint32_t event)
     }
     if (told.permanent && asked.set != NULL)
         keep_set();
-    reader_sent((mk_outcome){told.number, told.value});
+    reader_sent((mk_outcome){told.number, false, told.value});
     follow_port();
     flush_lines();
 }
@@ -591,23 +592,20 @@ static void reader_hears(const uint8_t *bytes, size_t count)
         reader_takes(bytes[i]);
 }
 
-// Whether the card's first packet equals the last one that was sent, the mark aside.
-static bool begins_alike(void)
+static int64_t silent_for(int64_t gap)
 {
-    uint8_t packet[MK_PACKET_SIZE];
-    size_t size, count = card.count < MK_DATA_SIZE ? card.count : MK_DATA_SIZE;
-    uint8_t status = card.count > count ? MK_STATUS_MORE : 0;
-    mk_build(packet, sizeof packet, MK_OPCODE_DECODE_DATA, MK_SOURCE_READER, status, card.bytes, count, &size);
-    return memcmp(packet, sender.copy, 3) == 0 && status == (sender.copy[3] & ~MK_STATUS_RESEND) &&
-        memcmp(packet + 4, sender.copy + 4, count) == 0;
+    return line.out + own_silence(gap);
 }
 
+static int64_t reader_message_gap(void)
+{
+    return message_gap(parameter(MK_PARAMETER_RESPONSE_TIME_OUT));
+}
+
+// Behind power-up the message gap is kept before the start, so that commands are answered meanwhile.
 static int64_t card_starts(void)
 {
-    int64_t gap = character_gap();
-    if (sender.gap_due || begins_alike())
-        gap = message_gap(parameter(MK_PARAMETER_RESPONSE_TIME_OUT));
-    return line.out + own_silence(gap);
+    return silent_for(sender.powered_up ? reader_message_gap() : character_gap());
 }
 
 // Not while the host is sending.
@@ -616,12 +614,28 @@ static bool card_may_start(void)
     return card.ready && line.character_gap;
 }
 
+// The message gap that a start told: nothing is sent, and what comes is dropped.
+static void keep_message_gap(void)
+{
+    puts("I");
+    flush_lines();
+    for (int64_t until = silent_for(reader_message_gap()), left; !stopped && (left = until - now()) > 0;)
+        drop_until(left < TICK ? until : now() + TICK);
+}
+
 static void start_card(void)
 {
     mk_outcome sent = mk_reader_send(&reader, card.bytes[0], card.bytes + 1, card.count - 1);
     card.ready = false;
     refusal_line(sent.number);
-    reader_sent(sent);
+    if (sent.number == MK_COPY) {
+        sender.waits = true;
+        sender.powered_up = false;
+    }
+    if (sent.gap)
+        keep_message_gap();
+    if (!stopped)
+        reader_sent(sent);
     flush_lines();
 }
 
@@ -677,7 +691,7 @@ static void show_values(void)
 static void power_up(void)
 {
     mk_reader_restart(&reader);
-    sender.gap_due = true;
+    sender.powered_up = true;
     follow_port();
 }
 

@@ -361,7 +361,8 @@ static void test_forgets_last(void)
     CHECK(mk_reader_parameter(reader, MK_PARAMETER_TRIGGER) == MK_TRIGGER_HOST);
 }
 
-// A packet begun goes on, a deaf framer stays deaf, a message stays out, what is switched on stays on.
+// A packet begun goes on, a deaf framer stays deaf, a message stays out, what is switched on stays on. So does what a
+// start tells: an equal message behind it wants a message gap.
 static void test_leaves_the_rest(void)
 {
     mk_reader_send(reader, 0x1B, (const uint8_t *)"8", 1);
@@ -373,6 +374,7 @@ static void test_leaves_the_rest(void)
     CHECK(reader_said(reader_takes("03"), MK_LENGTH, READER_NAK_1));
     lock("80");
     CHECK(reader_said(reader_takes("05 E6 04 00 01 FF 10"), MK_NOTHING, ""));
+    CHECK(started(mk_reader_send(reader, 0x1B, (const uint8_t *)"8", 1), 8, true));
 }
 
 // The set's 9Fh holds at once.

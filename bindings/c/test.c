@@ -6,7 +6,8 @@
 // ---- garbage: random control values and buffers, then random events. Each machine runs twice, by its calls with
 // guards around every buffer, and as its type by the short functions: both are to do the same.
 
-enum { ROUNDS = 5000, ROUND_EVENTS = 50, MOST_RESENDS = 34 };
+enum { ROUNDS = 5000, ROUND_EVENTS = 50, MOST_RESENDS = 34, MOST_PIECES = 17 };
+enum { GAP_DUE = 200 }; // seen beside the numbers: a start that tells a message gap
 
 static bool is_head(const size_t *head, size_t length, uint8_t opcode, uint8_t source, uint8_t status)
 {
@@ -167,12 +168,43 @@ static void garbage_sent(sights *told, uint32_t number, mk_outcome other, size_t
 {
     size_t value = room.values[0];
     see(told, number);
-    CHECK(brought(other, number, value));
+    CHECK(other.number == number && other.value == value);
     CHECK(stays(room.packet, number == MK_COPY ? value : 0, MK_PACKET_SIZE));
     CHECK(stays(room.message, number == MK_COPY ? started : 0, MK_MESSAGE_SIZE));
     CHECK(number != MK_COPY || value >= 7);
     CHECK((number != MK_DELIVERED && number != MK_FAILED) || value <= MOST_RESENDS);
     CHECK((number != MK_NOTHING && number != MK_START) || value == 0);
+}
+
+// Whether a message gap is due before a message, by the sender's part of a control value and the buffer as they were.
+static bool gap_is_due(const uint8_t *control, const uint8_t *buffer, uint8_t code, const uint8_t *bytes, size_t count)
+{
+    uint64_t length = number_at(control + SENDER_LENGTH), at = number_at(control + SENDER_AT);
+    if (control[SENDER_FAILED] == 1)
+        return true;
+    if (control[SENDER_OUT] == 1 || control[SENDER_DELIVERED] != 1 || control[SENDER_CODE] != code)
+        return false;
+    if (length > MK_MESSAGE_SIZE || at > length || number_at(control + SENDER_SIZE) != length - at)
+        return false;
+    return length - at <= 250 && length - at == count && memcmp(buffer + at, bytes, count) == 0;
+}
+
+// A start: as above, and the gap that it tells.
+static void garbage_started(
+    sights *told, uint32_t number, mk_outcome other, const uint8_t *control, uint8_t code, size_t count)
+{
+    size_t gap = room.values[MK_START_VALUE_GAP];
+    CHECK(gap == (number == MK_COPY && gap_is_due(was(control), was(room.message), code, room.bytes, count)));
+    CHECK(other.gap == gap);
+    if (gap == 1)
+        see(told, GAP_DUE);
+    garbage_sent(told, number, other, count);
+}
+
+// Few types and counts, of the same bytes in each round: so that messages in a row are often equal.
+static uint8_t any_code(void)
+{
+    return below(4) == 0 ? any_byte() : 0x1B;
 }
 
 static size_t any_count(void)
@@ -193,16 +225,18 @@ static void garbage_sender(sights *told)
 {
     size_t count = any_count();
     uint32_t heard = any_heard(), number;
-    uint8_t code = any_byte();
+    uint8_t code = any_code();
     remember();
     if (below(4) == 0) {
         number = mk_sender_start(room.sender, MK_SENDER_CONTROL_SIZE, room.message, room.packet, MK_PACKET_SIZE, code,
             room.bytes, count, room.values);
-        garbage_sent(told, number, mk_sender_send(sender, code, room.bytes, count), count);
+        garbage_started(told, number, mk_sender_send(sender, code, room.bytes, count), room.sender, code, count);
     } else {
         number = mk_sender_hear(room.sender, MK_SENDER_CONTROL_SIZE, room.message, room.packet, MK_PACKET_SIZE, heard,
             room.values);
-        garbage_sent(told, number, mk_sender_heard(sender, heard), 0);
+        mk_outcome other = mk_sender_heard(sender, heard);
+        CHECK(!other.gap);
+        garbage_sent(told, number, other, 0);
     }
     number = mk_sender_waits(room.sender, MK_SENDER_CONTROL_SIZE);
     see(told, number);
@@ -226,7 +260,7 @@ static void test_garbage_sender(void)
             CHECK(are_twins(twins, COUNT(twins)));
         }
     }
-    saw(&told, (const uint8_t[]){MK_NOTHING, MK_START, MK_COPY, MK_DELIVERED, MK_FAILED, MK_OUT}, 6);
+    saw(&told, (const uint8_t[]){MK_NOTHING, MK_START, MK_COPY, MK_DELIVERED, MK_FAILED, MK_OUT, GAP_DUE}, 7);
 }
 
 static void garbage_reader_event(sights *told, uint32_t event)
@@ -248,7 +282,7 @@ static void garbage_reader_event(sights *told, uint32_t event)
     bool of_sender = number == MK_COPY || number == MK_DELIVERED || number == MK_FAILED;
     CHECK(of_sender ? answer == 0 : room.values[MK_READER_VALUE_SENT] == 0);
     room.values[0] = room.values[MK_READER_VALUE_SENT];
-    mk_outcome sent = {other.number, other.value};
+    mk_outcome sent = {other.number, false, other.value};
     garbage_sent(told, number, sent, 0);
 }
 
@@ -272,16 +306,19 @@ static void garbage_set(sights *sets)
 static void garbage_reader(sights *told, sights *sent, sights *sets, chatter *talk)
 {
     size_t chance = below(32), count = any_count();
-    uint8_t code = any_byte(), number = pick(parameters, COUNT(parameters));
+    uint8_t code = any_code(), number = pick(parameters, COUNT(parameters));
     remember();
     if (chance == 0) {
-        uint32_t started = mk_reader_start(room.reader, MK_READER_CONTROL_SIZE, room.message, room.packet,
+        uint32_t start = mk_reader_start(room.reader, MK_READER_CONTROL_SIZE, room.message, room.packet,
             MK_PACKET_SIZE, code, room.bytes, count, room.values);
-        garbage_sent(sent, started, mk_reader_send(reader, code, room.bytes, count), count);
+        mk_outcome other = mk_reader_send(reader, code, room.bytes, count);
+        garbage_started(sent, start, other, room.reader + READER_SENDER, code, count);
     } else if (chance == 1) {
         uint32_t timed_out = mk_reader_time_out(
             room.reader, MK_READER_CONTROL_SIZE, room.message, room.packet, MK_PACKET_SIZE, room.values);
-        garbage_sent(sent, timed_out, mk_reader_expire(reader), 0);
+        mk_outcome other = mk_reader_expire(reader);
+        CHECK(!other.gap);
+        garbage_sent(sent, timed_out, other, 0);
     } else if (chance == 2 && below(4) == 0) {
         CHECK(mk_reader_power_up(room.reader, MK_READER_CONTROL_SIZE) == MK_NOTHING);
         mk_reader_restart(reader);
@@ -321,7 +358,7 @@ static void test_garbage_reader(void)
     }
     saw(&told, (const uint8_t[]){MK_NOTHING, MK_LENGTH, MK_CHECKSUM, MK_CUT, MK_SOURCE, MK_STATUS, MK_OPCODE, MK_DATA,
         MK_BEEP, MK_SETTING, MK_REPEATED, MK_ACTED, MK_COPY, MK_DELIVERED, MK_FAILED}, 15);
-    saw(&sent, (const uint8_t[]){MK_NOTHING, MK_START, MK_COPY, MK_FAILED}, 4);
+    saw(&sent, (const uint8_t[]){MK_NOTHING, MK_START, MK_COPY, MK_FAILED, GAP_DUE}, 5);
     saw(&sets, (const uint8_t[]){MK_NOTHING, MK_FORM, MK_WRITTEN}, 3);
 }
 
@@ -469,22 +506,66 @@ static void test_case_parameter(void)
     CHECK(reader_said(reader_takes("05 C7 04 01 8A FE A5"), MK_REPEATED, "07 C6 00 00 FF 8A 08 FD A2"));
 }
 
-// Cases 9 and 10: how many pieces, and the last one's size.
+// A message, each packet acknowledged at once: how many pieces, and their sizes.
+static size_t cut(const uint8_t *bytes, size_t count, size_t sizes[MOST_PIECES])
+{
+    size_t pieces = 0, at = 0;
+    mk_outcome sent = mk_sender_send(sender, 0x1B, bytes, count);
+    while (sent.number == MK_COPY && pieces < MOST_PIECES) {
+        size_t size = sender->copy[0] - 5u;
+        CHECK(size <= count - at && memcmp(sender->copy + 5, bytes + at, size) == 0);
+        at += sizes[pieces++] = size;
+        CHECK(sender->copy[3] == (at < count ? MK_STATUS_MORE : 0));
+        sent = mk_sender_heard(sender, MK_HEARD_ACK);
+    }
+    CHECK(brought(sent, MK_DELIVERED, 0) && at == count);
+    return pieces;
+}
+
+// Cases 9 and 10: how many pieces, and the last one's size. All before it have 250 bytes.
 static void test_case_cuts(void)
 {
     static const size_t cuts[][3] = {{250, 1, 250}, {251, 2, 1}, {500, 2, 250}, {4096, 17, 96}};
     for (size_t i = 0; i < COUNT(cuts); i++) {
-        size_t pieces = 0, last = 0;
-        mk_outcome sent = mk_sender_send(sender, 0x1B, message, cuts[i][0]);
-        while (sent.number == MK_COPY && pieces < 20) {
-            last = sender->copy[0] - 5u;
-            CHECK(memcmp(sender->copy + 5, message + 250 * pieces, last) == 0);
-            pieces++;
-            sent = mk_sender_heard(sender, MK_HEARD_ACK);
-        }
-        CHECK(brought(sent, MK_DELIVERED, 0) && pieces == cuts[i][1] && last == cuts[i][2]);
+        size_t sizes[MOST_PIECES], pieces = cut(message, cuts[i][0], sizes);
+        CHECK(pieces == cuts[i][1] && sizes[pieces - 1] == cuts[i][2]);
+        for (size_t j = 0; j + 1 < pieces; j++)
+            CHECK(sizes[j] == 250);
     }
     CHECK(brought(mk_sender_send(sender, 0x1B, message, 4097), MK_START, 0));
+}
+
+// A piece that would equal the one before it is cut one byte shorter, the last one never is.
+static void test_equal_pieces(void)
+{
+    static const struct {
+        size_t count, pieces, sizes[5];
+    } cuts[] = {
+        {250, 1, {250}},
+        {251, 2, {250, 1}},
+        {500, 2, {250, 250}},
+        {501, 3, {250, 249, 2}},
+        {749, 3, {250, 249, 250}},
+        {750, 4, {250, 249, 250, 1}},
+        {999, 4, {250, 249, 250, 250}},
+        {1000, 5, {250, 249, 250, 249, 2}},
+    };
+    size_t sizes[MOST_PIECES];
+    uint8_t equal[MK_MESSAGE_SIZE];
+    memset(equal, '8', sizeof equal);
+    for (size_t i = 0; i < COUNT(cuts); i++) {
+        CHECK(cut(equal, cuts[i].count, sizes) == cuts[i].pieces);
+        CHECK(memcmp(sizes, cuts[i].sizes, cuts[i].pieces * sizeof *sizes) == 0);
+    }
+    CHECK(cut(equal, MK_MESSAGE_SIZE, sizes) == MOST_PIECES && sizes[16] == 104);
+    for (size_t i = 0; i < 16; i++)
+        CHECK(sizes[i] == (i % 2 == 0 ? 250 : 249));
+
+    // Two equal pieces among others: those behind the cut one start a byte sooner.
+    memcpy(message + 500, message + 250, 250);
+    CHECK(cut(message, MK_MESSAGE_SIZE, sizes) == MOST_PIECES && sizes[16] == 97);
+    for (size_t i = 0; i < 16; i++)
+        CHECK(sizes[i] == (i == 2 ? 249 : 250));
 }
 
 // ---- both ends
@@ -544,6 +625,8 @@ static size_t deliver(uint8_t code, size_t count)
 {
     size_t pieces = 0, messages = 0;
     mk_outcome sent = mk_reader_send(reader, code, message, count);
+    if (sent.gap)
+        mk_hub_event(hub, MK_MESSAGE_GAP);
     while (sent.number == MK_COPY && pieces < 20) {
         mk_hub_told told = hub_gets(reader->copy, sent.value);
         pieces++;
@@ -568,6 +651,190 @@ static void test_equal_cards(void)
     }
 }
 
+// ---- message gaps
+
+// A message by sender and reader, each packet acknowledged at once: whether its start tells a message gap.
+static bool tells_gap(uint8_t code, const uint8_t *bytes, size_t count)
+{
+    mk_outcome one = mk_sender_send(sender, code, bytes, count), other = mk_reader_send(reader, code, bytes, count);
+    bool gap = one.gap;
+    CHECK(one.number == MK_COPY && started(other, one.value, gap));
+    while (one.number == MK_COPY) {
+        CHECK(memcmp(sender->copy, reader->copy, one.value) == 0);
+        one = mk_sender_heard(sender, MK_HEARD_ACK);
+        other = of_sender(reader_takes(HUB_ACK));
+        CHECK(brought(other, one.number, one.value));
+    }
+    CHECK(brought(one, MK_DELIVERED, 0));
+    return gap;
+}
+
+// Where the whole message is the last packet of the one before: the same type, the same bytes.
+static void test_gap_told(void)
+{
+    CHECK(!tells_gap(0x1B, message, 5));
+    CHECK(tells_gap(0x1B, message, 5));
+    CHECK(tells_gap(0x1B, message, 5));
+    CHECK(!tells_gap(0x1C, message, 5)); // another type
+    CHECK(!tells_gap(0x1C, message, 4)); // the front of it
+    CHECK(!tells_gap(0x1C, message, 5)); // the same and one byte more
+    CHECK(!tells_gap(0x1C, message + 1, 5));
+    CHECK(!tells_gap(0x1C, message, 0));
+    CHECK(tells_gap(0x1C, message, 0));
+    CHECK(!tells_gap(0x1C, message, 250));
+    CHECK(tells_gap(0x1C, message, 250));
+    CHECK(!tells_gap(0x1C, message, 251)); // its first packet has more to come
+    CHECK(!tells_gap(0x1C, message, 251));
+    CHECK(!tells_gap(0x1C, message, 250)); // the first piece of the one before, not its last
+    CHECK(!tells_gap(0x1C, message, 251));
+    CHECK(tells_gap(0x1C, message + 250, 1)); // its last piece
+    CHECK(!tells_gap(0x1C, message, MK_MESSAGE_SIZE));
+    CHECK(tells_gap(0x1C, message + 4000, 96));
+}
+
+// Neither commands nor a saved set nor refused starts change what a start tells.
+static void test_gap_kept(void)
+{
+    uint8_t form[EVENTS];
+    CHECK(!tells_gap(0x1B, message, 5));
+    CHECK(command(MK_OPCODE_BEEP, 0, form, 0).number == MK_DATA);
+    CHECK(set(MK_STATUS_PERMANENT, MK_PARAMETER_AIM_DURATION, 5) == MK_ACTED);
+    CHECK(reader_said(reader_takes("05 C7 04 00 8A FE A6"), MK_ACTED, "07 C6 00 00 FF 8A 00 FD AA"));
+    size_t size = read_bytes(HOUSE_SET, form);
+    CHECK(mk_reader_load(reader->control, sizeof reader->control, form, size) == MK_NOTHING);
+    CHECK(mk_reader_load(reader->control, sizeof reader->control, form, size - 1) == MK_FORM);
+    CHECK(brought(mk_reader_expire(reader), MK_NOTHING, 0) && brought(of_sender(reader_takes(HUB_ACK)), MK_NOTHING, 0));
+    CHECK(brought(mk_sender_heard(sender, MK_HEARD_TIME_OUT), MK_NOTHING, 0));
+    CHECK(brought(mk_reader_send(reader, 0x1B, message, 4097), MK_START, 0));
+    CHECK(brought(mk_sender_send(sender, 0x1B, message, 4097), MK_START, 0));
+    CHECK(mk_reader_start(reader->control, sizeof reader->control, reader->message, reader->copy,
+              sizeof reader->copy - 1, 0x1B, message, 5, room.values)
+        == MK_ROOM);
+    CHECK(tells_gap(0x1B, message, 5));
+}
+
+// Power-up and a sender made anew know nothing of what was before.
+static void test_gap_forgotten(void)
+{
+    CHECK(!tells_gap(0x1B, message, 5));
+    mk_reader_restart(reader);
+    mk_sender_init(sender);
+    CHECK(!tells_gap(0x1B, message, 5));
+    mk_reader_init(reader);
+    mk_sender_idle(sender->control, sizeof sender->control, true);
+    CHECK(started(mk_sender_send(sender, 0x1C, message, 5), 12, true));
+    CHECK(started(mk_reader_send(reader, 0x1C, message, 5), 12, false));
+    CHECK(of_sender(reader_takes(HUB_NAK_6)).number == MK_FAILED);
+    mk_reader_restart(reader);
+    CHECK(started(mk_reader_send(reader, 0x1C, message, 5), 12, false));
+}
+
+// After a failed message, whatever the next one is; and before that one only.
+static void test_gap_after_failure(void)
+{
+    for (size_t count = 0; count < 3; count++) {
+        CHECK(!tells_gap(0x1C, message, 5));
+        CHECK(started(mk_sender_send(sender, 0x1B, message, 1), 8, false));
+        CHECK(started(mk_reader_send(reader, 0x1B, message, 1), 8, false));
+        CHECK(brought(mk_sender_heard(sender, MK_CAUSE_DENIED), MK_FAILED, 0));
+        CHECK(brought(of_sender(reader_takes(HUB_NAK_6)), MK_FAILED, 0));
+        CHECK(brought(mk_sender_send(sender, 0x1B, message, 4097), MK_START, 0));
+        CHECK(brought(mk_reader_send(reader, 0x1B, message, 4097), MK_START, 0));
+        CHECK(tells_gap(0x1B, message, count));
+    }
+    CHECK(!tells_gap(0x1C, message, 5));
+}
+
+// The last packet of the message before is read in the buffer: who writes there changes what is told, and nothing else.
+static void test_gap_by_buffer(void)
+{
+    CHECK(!tells_gap(0x1B, message, 5));
+    memcpy(sender->message, message + 1, 5);
+    memcpy(reader->message, message + 1, 5);
+    CHECK(!tells_gap(0x1B, message, 5));
+    memcpy(sender->message, message + 1, 5);
+    memcpy(reader->message, message + 1, 5);
+    CHECK(tells_gap(0x1B, message + 1, 5));
+}
+
+// A control value that no run leaves has nothing out and no packet before: its start is a first one.
+static void test_gap_of_no_run(void)
+{
+    static const struct {
+        uint8_t out, delivered;
+        uint64_t length, at, size;
+        bool gap;
+    } cases[] = {
+        {0, 1, 5, 0, 5, true},
+        {0, 1, 255, 250, 5, true},
+        {2, 1, 5, 0, 5, true},
+        {0, 2, 5, 0, 5, false},
+        {0, 0, 5, 0, 5, false},
+        {1, 1, 5, 0, 4, false},
+        {0, 1, 5, 0, 4, false},
+        {0, 1, 255, 0, 5, false},
+        {0, 1, 600, 0, 250, false}, // as of a piece that is not the last
+        {0, 1, 600, 0, 249, false},
+        {0, 1, 4097, 4096, 1, false},
+        {0, 1, 5, 6, UINT64_MAX, false},
+        {0, 1, UINT64_MAX, UINT64_MAX - 5, 5, false},
+    };
+    for (size_t i = 0; i < COUNT(cases); i++) {
+        uint8_t control[MK_SENDER_CONTROL_SIZE] = {cases[i].out, 0x1B, 0, cases[i].delivered};
+        size_t at = cases[i].at < MK_MESSAGE_SIZE - 250 ? (size_t)cases[i].at : 0;
+        size_t count = cases[i].size <= 250 ? (size_t)cases[i].size : 0;
+        put_number(control + SENDER_LENGTH, cases[i].length);
+        put_number(control + SENDER_AT, cases[i].at);
+        put_number(control + SENDER_SIZE, cases[i].size);
+        memcpy(sender->control, control, sizeof control);
+        memcpy(sender->message, message, MK_MESSAGE_SIZE);
+        CHECK(started(mk_sender_send(sender, 0x1B, message + at, count), count + 7, cases[i].gap));
+        memcpy(reader->control + READER_SENDER, control, sizeof control);
+        memcpy(reader->message, message, MK_MESSAGE_SIZE);
+        CHECK(started(mk_reader_send(reader, 0x1B, message + at, count), count + 7, cases[i].gap));
+    }
+}
+
+// Cards over a line that loses copies and answers, most of them equal to the one before, some with equal pieces. How
+// many were not handed out as they were called: a delivered one once and whole, a failed one at most once.
+static size_t misfiled(bool heeds)
+{
+    static const size_t counts[] = {0, 1, 1, 1, 250, 500, 750};
+    size_t wrong = 0;
+    for (int i = 0; i < ROUNDS; i++) {
+        uint8_t card[750];
+        size_t count = counts[below(COUNT(counts))], handed = 0, whole = 0;
+        memset(card, below(4) == 0 ? '9' : '8', sizeof card);
+        mk_outcome sent = mk_reader_send(reader, 0x1B, card, count);
+        if (sent.gap && heeds)
+            mk_hub_event(hub, MK_MESSAGE_GAP);
+        while (sent.number == MK_COPY) {
+            mk_hub_told told = {MK_NOTHING, 0, 0, 0};
+            if (below(3) > 0)
+                told = hub_gets(reader->copy, sent.value);
+            handed += told.number == MK_MESSAGE;
+            whole += told.number == MK_MESSAGE && told.count == count && memcmp(hub->message, card, count) == 0;
+            if (told.answer > 0 && below(3) > 0)
+                sent = of_sender(reader_gets(hub->answer, told.answer));
+            else
+                sent = mk_reader_expire(reader);
+        }
+        wrong += handed != whole || handed > 1 || (sent.number == MK_DELIVERED && handed == 0);
+    }
+    return wrong;
+}
+
+// Two equal cards in a row come out as two where the gap is kept that a start tells, and else not always.
+static void test_equal_cards_on_a_line(void)
+{
+    CHECK(misfiled(true) == 0);
+    mk_reader_init(reader);
+    mk_hub_init(hub);
+    CHECK(misfiled(false) > 0);
+}
+
+// ---- how a message ends
+
 static void test_longest_message(void)
 {
     CHECK(deliver(0x1B, 4096) == 17);
@@ -583,7 +850,7 @@ static void test_failures(void)
     CHECK(brought(mk_reader_expire(reader), MK_COPY, 8) && reads(reader->copy, 8, MARKED_PIECE));
     CHECK(brought(of_sender(reader_takes(HUB_NAK_1)), MK_COPY, 8) && reads(reader->copy, 8, MARKED_PIECE));
     CHECK(brought(mk_reader_expire(reader), MK_FAILED, 2));
-    mk_reader_send(reader, 0x1B, (const uint8_t *)"8", 1);
+    CHECK(started(mk_reader_send(reader, 0x1B, (const uint8_t *)"8", 1), 8, true));
     CHECK(brought(of_sender(reader_takes(HUB_NAK_6)), MK_FAILED, 0));
 
     mk_sender_send(sender, 0x1B, (const uint8_t *)"8", 1);
@@ -724,8 +991,16 @@ static const test tests[] = {
     {"cases: pieces", test_case_pieces},
     {"cases: parameter", test_case_parameter},
     {"cases: cuts", test_case_cuts},
+    {"equal pieces", test_equal_pieces},
     {"story", test_story},
     {"equal cards", test_equal_cards},
+    {"gap: told", test_gap_told},
+    {"gap: kept", test_gap_kept},
+    {"gap: forgotten", test_gap_forgotten},
+    {"gap: after a failure", test_gap_after_failure},
+    {"gap: by the buffer", test_gap_by_buffer},
+    {"gap: of no run", test_gap_of_no_run},
+    {"equal cards on a line", test_equal_cards_on_a_line},
     {"longest message", test_longest_message},
     {"failures", test_failures},
     {"beeps", test_beeps},

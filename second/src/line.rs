@@ -1,6 +1,7 @@
 //! A lossy line between the proved programs. This program is the wire: it starts messages at the reader, carries copies
-//! and answers, loses or spoils some, and checks from outside what the demand on the line promises. There are two such
-//! lines at the same time, one for each of the programs that are a hub.
+//! and answers, loses or spoils some, and checks from outside what the demand on the line promises. Many messages equal
+//! the packet before them, and many have equal pieces; the hub gets a message gap where the reader tells that one is
+//! due, and nowhere else. There are two such lines at the same time, one for each of the programs that are a hub.
 
 use std::collections::VecDeque;
 use std::io::{BufRead, BufReader, Write};
@@ -14,9 +15,9 @@ use crate::form;
 use crate::framer::{Framed, Framer, LineEvent};
 use crate::hub::{Message, LONGEST_MESSAGE};
 use crate::listing::{push_bytes, Listing, Side};
-use crate::packet::{lay_out, written, CHECKSUM, CMD_ACK, DECODE_DATA, HEADER, MARK, MORE, READER};
+use crate::packet::{lay_out, written, CHECKSUM, CMD_ACK, DECODE_DATA, HEADER, LONGEST, MARK, MORE, READER};
 use crate::program::{said, Programs};
-use crate::streams::{open_stream, spoiled, Kind};
+use crate::streams::{alike, near, open_stream, spoiled, Kind};
 use crate::table::Table;
 
 pub const MESSAGES: u64 = 10_000;
@@ -24,6 +25,8 @@ pub const MESSAGES: u64 = 10_000;
 const ROUND: u64 = 50;
 const LIMIT: Duration = Duration::from_secs(20);
 const REMEMBERED: usize = 40;
+/// So many pieces at most can be cut in one message.
+const MOST_CUT: usize = 8;
 
 /// What was wrong, in words.
 type Breach = String;
@@ -161,6 +164,14 @@ struct Counts {
     answers_lost: u64,
     answers_spoiled: u64,
     time_outs: u64,
+    gaps_after_failure: u64,
+    gaps_for_equal: u64,
+    gaps_for_last_piece: u64,
+    equal_first_copy_bad: u64,
+    equal_answer_bad: u64,
+    cut_pieces: u64,
+    cut_pieces_again: u64,
+    most_cut: u64,
 }
 
 /// A message on its way.
@@ -176,12 +187,15 @@ struct Outgoing {
     acked: bool,
     marked: usize,
     handed_out: bool,
+    /// A message gap was told for it, as its first packet equals the one before.
+    equal: bool,
 }
 
 /// What the reader did about its message.
 enum Said {
     Nothing,
-    Copy(Vec<u8>),
+    /// A copy, and whether a message gap is due before it.
+    Copy(bool, Vec<u8>),
     Delivered(usize),
     Failed(usize),
 }
@@ -191,9 +205,19 @@ struct Wire {
     reader: Coupled,
     dice: Dice,
     weather: Weather,
-    /// The packet sent last since the last message gap: the next one must be another.
+    /// The packet sent last since the last message gap, without the mark: the next one must be another.
     previous: Option<Vec<u8>>,
+    /// How the message before ended, if there was one in this round.
+    before: Option<Before>,
     counts: Counts,
+}
+
+/// What is counted by, of the message before.
+#[derive(Clone, Copy, PartialEq, Eq)]
+enum Before {
+    Failed,
+    DeliveredWhole,
+    DeliveredInPieces,
 }
 
 /// How a line ended.
@@ -202,7 +226,7 @@ struct Ended {
     breach: Option<Breach>,
 }
 
-/// Whether the demand held on both lines.
+/// Whether the demand held on both lines, and everything was reached that is counted.
 pub fn line(programs: &Programs, seed: u64, messages: u64) -> std::io::Result<bool> {
     let begin = Instant::now();
     let share = messages.div_ceil(2);
@@ -222,11 +246,13 @@ pub fn line(programs: &Programs, seed: u64, messages: u64) -> std::io::Result<bo
     Counts::print(&lines[0].wire.counts, &lines[1].wire.counts);
     println!("in {:.1} s", begin.elapsed().as_secs_f64());
     let held = lines.iter().all(|line| line.breach.is_none());
+    let missed: Vec<&str> = lines.iter().flat_map(|line| line.wire.counts.missed()).collect();
     if held {
         println!("the demand held");
+        missed.iter().for_each(|name| println!("never reached: {name}"));
     }
     lines.into_iter().zip(seeds).for_each(|(line, seed)| line.show_breach(seed));
-    Ok(held)
+    Ok(held && missed.is_empty())
 }
 
 fn one_line(programs: &Programs, hub: Side, seed: u64, messages: u64) -> std::io::Result<Ended> {
@@ -236,6 +262,7 @@ fn one_line(programs: &Programs, hub: Side, seed: u64, messages: u64) -> std::io
         dice: Dice::new(seed),
         weather: WEATHERS[0],
         previous: None,
+        before: None,
         counts: Counts::default(),
     };
     let ran = wire.run(messages).and_then(|()| wire.hub.close()).and_then(|()| wire.reader.close());
@@ -284,20 +311,19 @@ impl Wire {
         text.extend_from_slice(b" ;\n");
         self.reader.tell(&text)?;
         self.previous = None;
+        self.before = None;
         self.weather = self.dice.pick(&WEATHERS);
         Ok(())
     }
 
-    /// A message of which no packet equals the one sent before it, as the demand assumes.
+    /// Any message, one that equals the packet sent before it or nearly does, or one with equal pieces.
     fn choose(&mut self) -> Message {
-        loop {
-            let message = draw(&mut self.dice);
-            let packets = packets_of(&message);
-            let before = self.previous.iter().chain(&packets);
-            if before.zip(packets.iter().skip(usize::from(self.previous.is_none()))).all(|(one, next)| one != next) {
-                return message;
-            }
-        }
+        let with_type = match (self.dice.weigh(&[60, 30, 10]), &self.previous) {
+            (1, Some(packet)) => near(&mut self.dice, &packet[HEADER..packet.len() - CHECKSUM]),
+            (2, _) => alike(&mut self.dice),
+            _ => return draw(&mut self.dice),
+        };
+        Message { code_type: with_type[0], bytes: with_type[1..].to_vec() }
     }
 
     fn carry(&mut self, message: Message) -> Result<(), Breach> {
@@ -317,9 +343,13 @@ impl Wire {
                     self.counts.time_outs += 1;
                     lines = self.reader.tell(b"T\n")?;
                 }
-                Said::Copy(copy) => {
+                Said::Copy(gap, copy) => {
                     timed_out = false;
+                    if gap {
+                        self.message_gap(&mut out)?;
+                    }
                     out.next_copy(&copy, &mut self.counts)?;
+                    self.apart(&out)?;
                     lines = self.exchange(&mut out, &copy)?;
                 }
                 Said::Delivered(marked) => return self.delivered(out, marked),
@@ -328,11 +358,45 @@ impl Wire {
         }
     }
 
+    /// The silence that the reader told of: only before the first copy of a message, and the hub has nothing to say.
+    fn message_gap(&mut self, out: &mut Outgoing) -> Result<(), Breach> {
+        if out.at > 0 || !out.tries.is_empty() {
+            return Err("a message gap was told inside a message".into());
+        }
+        match self.before {
+            None => return Err("a message gap was told with no message before".into()),
+            Some(Before::Failed) => self.counts.gaps_after_failure += 1,
+            Some(before) => {
+                out.equal = true;
+                self.counts.gaps_for_equal += 1;
+                self.counts.gaps_for_last_piece += u64::from(before == Before::DeliveredInPieces);
+            }
+        }
+        self.previous = None;
+        if self.hub.tell(b"/\n")?.is_empty() {
+            Ok(())
+        } else {
+            Err("the hub said something at a gap with nothing begun".into())
+        }
+    }
+
+    /// A packet sent for the first time is not the one before it, the mark left out.
+    fn apart(&mut self, out: &Outgoing) -> Result<(), Breach> {
+        let packet = &out.packets[out.at];
+        if out.tries.is_empty() && self.previous.as_ref() == Some(packet) {
+            return Err("a packet equals the one before it, with no message gap between".into());
+        }
+        self.previous = Some(packet.clone());
+        Ok(())
+    }
+
     /// A copy to the hub and its answer back, each with its gap; gives what the reader says to it.
     fn exchange(&mut self, out: &mut Outgoing, copy: &[u8]) -> Result<Vec<String>, Breach> {
         let going = fate(&mut self.dice, self.weather.copies);
         self.counts.copies_lost += u64::from(going == Fate::Lost);
         self.counts.copies_spoiled += u64::from(going == Fate::Spoiled);
+        let first_of_equal = out.equal && out.tries.is_empty();
+        self.counts.equal_first_copy_bad += u64::from(first_of_equal && going != Fate::Whole);
         let arrived = after(&mut self.dice, going, copy);
         let lines = self.hub.tell(&with_gap(&arrived))?;
         let Some(answer) = out.hub_said(&lines)? else {
@@ -343,13 +407,14 @@ impl Wire {
         self.counts.answers += 1;
         self.counts.answers_lost += u64::from(coming == Fate::Lost);
         self.counts.answers_spoiled += u64::from(coming == Fate::Spoiled);
+        self.counts.equal_answer_bad += u64::from(first_of_equal && going == Fate::Whole && coming != Fate::Whole);
         out.tries.push(going == Fate::Whole && coming == Fate::Whole);
         out.acked = coming == Fate::Whole && answer[1] == CMD_ACK;
         let arrived = after(&mut self.dice, coming, &answer);
         self.reader.tell(&with_gap(&arrived))
     }
 
-    fn delivered(&mut self, mut out: Outgoing, marked: usize) -> Result<(), Breach> {
+    fn delivered(&mut self, out: Outgoing, marked: usize) -> Result<(), Breach> {
         self.counts.delivered += 1;
         out.marks_told(marked)?;
         if !out.handed_out {
@@ -358,7 +423,8 @@ impl Wire {
         if !out.acked || out.at + 1 != out.packets.len() {
             return Err("a message was called delivered without the ACK of its last packet".into());
         }
-        self.previous = out.packets.pop();
+        self.counts.most_cut += u64::from(out.packets.iter().filter(|packet| is_cut(packet)).count() == MOST_CUT);
+        self.before = Some(if out.at == 0 { Before::DeliveredWhole } else { Before::DeliveredInPieces });
         Ok(())
     }
 
@@ -369,13 +435,8 @@ impl Wire {
         if out.tries != [false; 3] {
             return Err(format!("a message failed with tries that came through or were not made: {:?}", out.tries));
         }
-        self.previous = None;
-        let lines = self.hub.tell(b"/\n")?;
-        if lines.is_empty() {
-            Ok(())
-        } else {
-            Err("the hub said something at the gap after a failed message".into())
-        }
+        self.before = Some(Before::Failed);
+        Ok(())
     }
 }
 
@@ -389,6 +450,7 @@ impl Outgoing {
             acked: false,
             marked: 0,
             handed_out: false,
+            equal: false,
         }
     }
 
@@ -410,6 +472,8 @@ impl Outgoing {
         self.marked += usize::from(again);
         counts.marked_copies += u64::from(again);
         counts.third_copies += u64::from(self.tries.len() == 2);
+        counts.cut_pieces += u64::from(is_cut(packet) && !again);
+        counts.cut_pieces_again += u64::from(is_cut(packet) && again);
         if self.tries.len() >= 3 {
             return Err("a packet was sent more than three times".into());
         }
@@ -450,7 +514,7 @@ impl Outgoing {
 }
 
 impl Counts {
-    fn rows(&self) -> [(u64, &'static str); 13] {
+    fn rows(&self) -> [(u64, &'static str); 21] {
         [
             (self.messages, "messages"),
             (self.delivered, "delivered"),
@@ -465,7 +529,19 @@ impl Counts {
             (self.answers_lost, "answers lost"),
             (self.answers_spoiled, "answers spoiled"),
             (self.time_outs, "time-outs"),
+            (self.gaps_after_failure, "message gaps told after a failed message"),
+            (self.gaps_for_equal, "message gaps told for an equal card"),
+            (self.gaps_for_last_piece, "of these, equal to the last piece of a longer message"),
+            (self.equal_first_copy_bad, "equal cards whose first copy was lost or spoiled"),
+            (self.equal_answer_bad, "equal cards whose first answer was lost or spoiled"),
+            (self.cut_pieces, "pieces cut"),
+            (self.cut_pieces_again, "cut pieces resent"),
+            (self.most_cut, "messages delivered with eight pieces cut"),
         ]
+    }
+
+    fn missed(&self) -> impl Iterator<Item = &'static str> {
+        self.rows().into_iter().filter(|(count, _)| *count == 0).map(|(_, name)| name)
     }
 
     /// The counts of both lines beside each other.
@@ -491,28 +567,38 @@ fn draw(dice: &mut Dice) -> Message {
     };
     let letters: &[u8] = dice.pick(&[&b"8"[..], b"89", b"0123456789", &[0x00, 0x04, 0xFF, 0xF3]]);
     let code_type = dice.pick(&[0x1B, 0x1B, 0x1C]);
-    let mut bytes: Vec<u8> = (0..size).map(|_| dice.pick(letters)).collect();
-    // A changed byte keeps long messages of one letter from being drawn in vain.
-    for at in (0..size).step_by(250) {
-        if dice.chance(70) {
-            bytes[at] = dice.byte();
-        }
-    }
+    let bytes: Vec<u8> = (0..size).map(|_| dice.pick(letters)).collect();
     Message { code_type, bytes }
 }
 
-/// The packets of a message: pieces of 250 bytes, the last one the rest, an empty message one piece.
-pub fn packets_of(message: &Message) -> Vec<Vec<u8>> {
-    let mut pieces: Vec<&[u8]> = message.bytes.chunks(250).collect();
-    if pieces.is_empty() {
-        pieces.push(&[]);
+/// The pieces of a message: 250 bytes each, or 249 where these would be the piece before once more; the last one is the
+/// rest, and an empty message is one piece.
+fn pieces_of(bytes: &[u8]) -> Vec<&[u8]> {
+    let mut pieces: Vec<&[u8]> = Vec::new();
+    let mut left = bytes;
+    while left.len() > 250 {
+        let again = pieces.last() == Some(&&left[..250]);
+        let (piece, rest) = left.split_at(if again { 249 } else { 250 });
+        pieces.push(piece);
+        left = rest;
     }
+    pieces.push(left);
+    pieces
+}
+
+pub fn packets_of(message: &Message) -> Vec<Vec<u8>> {
+    let pieces = pieces_of(&message.bytes);
     let last = pieces.len() - 1;
     let packet = |(i, piece): (usize, &&[u8])| {
         let status = if i < last { MORE } else { 0 };
         written(DECODE_DATA, READER, status, &[&[message.code_type], *piece].concat())
     };
     pieces.iter().enumerate().map(packet).collect()
+}
+
+/// A packet that others follow has 257 bytes, one fewer where its piece was cut.
+fn is_cut(packet: &[u8]) -> bool {
+    packet[3] & MORE != 0 && packet.len() < LONGEST
 }
 
 fn with_mark(packet: &[u8], marked: bool) -> Vec<u8> {
@@ -573,14 +659,19 @@ fn number_of(line: &str) -> Result<usize, Breach> {
 /// With a message out and no command on the line, refusals 1 to 3 may be told but nothing else sent.
 fn reader_said(lines: &[String]) -> Result<Said, Breach> {
     let mut said = Said::Nothing;
+    let mut gap = false;
     for line in lines {
         match (&line[..1], &said) {
-            ("R", Said::Nothing) if matches!(number_of(line)?, 1..=3) => {}
-            ("C", Said::Nothing) => said = Said::Copy(bytes_of(line)?),
+            ("R", Said::Nothing) if !gap && matches!(number_of(line)?, 1..=3) => {}
+            ("I", Said::Nothing) if !gap && line.len() == 1 => gap = true,
+            ("C", Said::Nothing) => said = Said::Copy(gap, bytes_of(line)?),
             ("D", Said::Nothing) => said = Said::Delivered(number_of(line)?),
             ("F", Said::Nothing) => said = Said::Failed(number_of(line)?),
             _ => return Err(format!("the reader said too much: {line:?}")),
         }
+    }
+    if gap && !matches!(said, Said::Copy(..)) {
+        return Err("a message gap was told without a copy".into());
     }
     Ok(said)
 }

@@ -243,6 +243,9 @@ fn print_reader(step: &Step, lines: &mut Vec<u8>) {
         push_number_line(b'G', &numbers, lines);
     }
     push_byte_line(b'A', step.answer.as_deref(), lines);
+    if step.gap {
+        push_number_line(b'I', &[], lines);
+    }
     push_byte_line(b'C', step.copy.as_deref(), lines);
     match step.end {
         None => {}

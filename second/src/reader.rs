@@ -3,7 +3,7 @@
 use crate::form;
 use crate::framer::{Framed, Framer, LineEvent};
 use crate::packet::*;
-use crate::sender::{End, Sender, Sent};
+use crate::sender::{End, First, Sender, Sent};
 use crate::table::{allowed, beep, Beep, Table, NO_BEEP, ROWS};
 
 /// In a PARAM_REQUEST: all parameters.
@@ -40,6 +40,8 @@ pub struct Step {
     /// A permanent value is another one now, so that the firmware should save it.
     pub changed: bool,
     pub answer: Option<Vec<u8>>,
+    /// A message gap is due before the copy, which is the first one of a message.
+    pub gap: bool,
     pub copy: Option<Vec<u8>>,
     pub end: Option<End>,
 }
@@ -117,7 +119,7 @@ impl Reader {
 
     pub fn start(&mut self, code_type: u8, bytes: &[u8]) -> Step {
         match self.sender.start(code_type, bytes) {
-            Ok(copy) => told(Sent::Copy(copy)),
+            Ok(First { copy, gap }) => Step { gap, copy: Some(copy), ..Step::default() },
             Err(refusal) => Step { refusal: Some(refusal), ..Step::default() },
         }
     }

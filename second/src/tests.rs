@@ -4,6 +4,7 @@ use crate::form::{self, Fault};
 use crate::framer::{Framed, Framer, LineEvent};
 use crate::listing::{output, Side};
 use crate::packet::*;
+use crate::sender::{End, Sent};
 use crate::streams::Kind;
 use crate::table::{allowed, beep, Table, ROWS};
 
@@ -424,20 +425,208 @@ fn start(n: usize) -> String {
     format!("S 1B {} ; ", "38 ".repeat(n))
 }
 
+const ACK: &str = "04 D0 04 00 FF 28 . ";
+
+/// `S` for a message of these bytes.
+fn start_of(code_type: u8, message: &[u8]) -> String {
+    let mut text = b"S".to_vec();
+    crate::listing::push_bytes(&[&[code_type], message].concat(), &mut text);
+    String::from_utf8(text).expect("digits") + " ; "
+}
+
+/// A message of these bytes, with an ACK for each of its pieces.
+fn delivered(code_type: u8, message: &[u8]) -> String {
+    start_of(code_type, message) + &ACK.repeat(pieces(message).len())
+}
+
+/// The pieces that are sent of a message, each with bit 1 or without.
+fn pieces_sent(message: &[u8]) -> Vec<(bool, Vec<u8>)> {
+    let mut sender = crate::sender::Sender::default();
+    let ack = check(&lay_out(CMD_ACK, HOST, 0, &[])).expect("an ACK");
+    let mut copy = sender.start(0x1B, message).expect("nothing out").copy;
+    let mut pieces = Vec::new();
+    loop {
+        pieces.push((copy[3] == MORE, copy[HEADER + 1..copy.len() - CHECKSUM].to_vec()));
+        match sender.answer(&ack) {
+            Sent::Copy(next) => copy = next,
+            sent => {
+                assert_eq!(sent, Sent::Ended(End::Delivered(0)));
+                return pieces;
+            }
+        }
+    }
+}
+
+/// Their sizes. In any case they are the message, and no two neighbours are equal.
+fn pieces(message: &[u8]) -> Vec<usize> {
+    let pieces = pieces_sent(message);
+    let joined: Vec<u8> = pieces.iter().flat_map(|(_, piece)| piece.clone()).collect();
+    assert_eq!(joined, message);
+    assert!(pieces.windows(2).all(|pair| pair[0] != pair[1] && pair[0].0));
+    assert!(!pieces[pieces.len() - 1].0);
+    pieces.into_iter().map(|(_, piece)| piece.len()).collect()
+}
+
 #[test]
 fn pieces_hold_250_bytes() {
-    let ack = "04 D0 04 00 FF 28 . ";
-    for (size, pieces, last) in [(0, 1, 0), (250, 1, 250), (251, 2, 1), (500, 2, 250), (4_096, 17, 96)] {
-        let lines = reader(&(start(size) + &ack.repeat(pieces)));
+    let message: Vec<u8> = (0..4_096).map(|i: usize| (i / 250) as u8).collect();
+    for (size, count, last) in [(0, 1, 0), (250, 1, 250), (251, 2, 1), (500, 2, 250), (4_096, 17, 96)] {
+        let lines = reader(&delivered(0x1B, &message[..size]));
         let lines: Vec<&str> = lines.lines().collect();
-        assert_eq!(lines.len(), pieces + 1);
-        assert_eq!(lines[pieces], "D 0");
-        assert_eq!(lines[pieces - 1].len(), 1 + 3 * (last + 7));
-        assert!(lines[..pieces - 1].iter().all(|line| line.starts_with("C FF F3 00 02 1B 38")));
+        assert_eq!(lines.len(), count + 1);
+        assert_eq!(lines[count], "D 0");
+        assert_eq!(lines[count - 1].len(), 1 + 3 * (last + 7));
+        assert!(lines[..count - 1].iter().all(|line| line.starts_with("C FF F3 00 02 1B")));
     }
     assert_eq!(reader(&start(4_097)), "R 11\n");
     assert_eq!(reader(&start(9_000)), "R 11\n");
     assert_eq!(reader_after(&start(1), &start(0)), "R 11\n");
+}
+
+#[test]
+fn a_piece_like_the_one_before_is_cut() {
+    let sizes = |size: usize| pieces(&vec![0x38; size]);
+    assert_eq!(sizes(750), [250, 249, 250, 1]);
+    assert_eq!(sizes(501), [250, 249, 2]);
+    // The last is never cut, be it like a whole one or like a cut one.
+    assert_eq!(sizes(500), [250, 250]);
+    assert_eq!(sizes(748), [250, 249, 249]);
+    assert_eq!(sizes(749), [250, 249, 250]);
+    assert_eq!(sizes(999), [250, 249, 250, 250]);
+    assert_eq!(sizes(1_000), [250, 249, 250, 249, 2]);
+    // The first never is, nor one behind a cut one.
+    for size in 0..=4_096 {
+        let sizes = sizes(size);
+        assert!(sizes.iter().rev().skip(1).rev().enumerate().all(|(i, size)| *size == [250, 249][i % 2]));
+    }
+    let most = sizes(4_096);
+    assert_eq!((most.len(), most[16]), (17, 104));
+}
+
+#[test]
+fn a_piece_unlike_the_one_before_is_whole() {
+    for place in 0..750 {
+        let mut message = vec![0x38; 751];
+        message[place] = 0x39;
+        let due = match place {
+            0..=249 => [250, 250, 249, 2],
+            250..=499 => [250, 250, 250, 1],
+            _ => [250, 249, 250, 2],
+        };
+        assert_eq!(pieces(&message), due, "{place}");
+    }
+    // It is the piece as it was sent that counts: blocks of 250 bytes are no measure behind a cut.
+    let blocks = [[0x37; 250], [0x37; 250], [0x38; 250], [0x38; 250], [0x38; 250]].concat();
+    assert_eq!(pieces(&blocks), [250, 249, 250, 250, 249, 2]);
+    let mut full = vec![0x38; 4_096];
+    full[4_095] = 0x39;
+    assert_eq!(pieces(&full).last(), Some(&104));
+    full.iter_mut().step_by(250).enumerate().for_each(|(i, byte)| *byte = i as u8);
+    assert_eq!((pieces(&full).len(), pieces(&full)[16]), (17, 96));
+}
+
+#[test]
+fn a_cut_piece_is_resent_as_it_was() {
+    let cut = reader_after(&start(750), ACK);
+    assert!(cut.starts_with("C FE F3 00 02 1B 38") && cut.len() == 1 + 3 * 256 + 1);
+    let marked = reader_after(&format!("{} {ACK}", start(750)), "T");
+    assert!(marked.starts_with("C FE F3 00 03 1B 38") && marked.len() == 1 + 3 * 256 + 1);
+    let next = reader_after(&format!("{} {ACK} T", start(750)), ACK);
+    assert!(next.starts_with("C FF F3 00 02 1B 38"));
+}
+
+const CARD: &str = "C 06 F3 00 00 1B 38 FE B4\n";
+const NAK_2: &str = "05 D1 04 00 02 FF 24 . ";
+
+#[test]
+fn a_gap_is_due_after_a_failed_message() {
+    let told = format!("I\n{CARD}");
+    assert_eq!(reader_after(&format!("{} {NAK_2}", start(5)), &start(1)), told);
+    assert_eq!(reader_after(&format!("{} T T T", start(5)), &start(1)), told);
+    // Also where it failed inside, and for any message.
+    assert_eq!(reader_after(&format!("{} {ACK} T T T", start(501)), &start(1)), told);
+    assert!(reader_after(&format!("{} {NAK_2}", start(1)), &start(251)).starts_with("I\nC FF F3 00 02"));
+    // An equal card after it is told one.
+    assert_eq!(reader_after(&format!("{} {NAK_2}", start(1)), &start(1)), told);
+    // Once only; but again where the next fails too.
+    let after = format!("{} {NAK_2} {} ", start(5), start(1));
+    assert_eq!(reader_after(&(after.clone() + ACK), &start(2)), reader(&start(2)));
+    assert_eq!(reader_after(&(after + NAK_2), &start(1)), told);
+}
+
+#[test]
+fn a_gap_is_due_before_an_equal_card() {
+    let told = format!("I\n{CARD}");
+    let eight = delivered(0x1B, b"8");
+    assert_eq!(reader_after(&eight, &start(1)), told);
+    assert_eq!(reader_after(&eight.repeat(2), &start(1)), told);
+    // The mark of the copy before does not matter.
+    assert_eq!(reader_after(&format!("{} T {ACK}", start(1)), &start(1)), told);
+    // Nor how long the message before was.
+    let sample = [&[0x37; 250][..], b"8"].concat();
+    assert_eq!(reader_after(&delivered(0x1B, &sample), &start(1)), told);
+    assert_eq!(reader_after(&delivered(0x1B, &[0x38; 750]), &start(1)), told);
+    let empty = "I\nC 05 F3 00 00 1B FE ED\n";
+    assert_eq!(reader_after(&delivered(0x1B, b""), &start(0)), empty);
+    for size in 0..=250 {
+        let card = start(size);
+        assert_eq!(reader_after(&delivered(0x1B, &vec![0x38; size]), &card), format!("I\n{}", reader(&card)));
+    }
+}
+
+#[test]
+fn no_gap_is_due_before_another_card() {
+    let long = [&[0x37; 250][..], b"88"].concat();
+    for (before, type_before, message) in [
+        (&b"8"[..], 0x1C, &b"8"[..]),
+        (b"88", 0x1B, b"8"),
+        (b"8", 0x1B, b"88"),
+        (b"8", 0x1B, b""),
+        (b"", 0x1B, b"8"),
+        (b"8", 0x1B, b"9"),
+        (b"89", 0x1B, b"88"),
+        (b"98", 0x1B, b"88"),
+        (&long, 0x1B, b"8"),
+        (&long, 0x1C, b"88"),
+        // In front of a longer message: of one packet it is the whole, and bit 1 tells them apart.
+        (b"8", 0x1B, &[0x38; 251]),
+        (&[0x38; 250], 0x1B, &[0x38; 251]),
+        // The piece before was not the last.
+        (&[0x38; 251], 0x1B, &[0x38; 250]),
+        (&long, 0x1B, &long),
+    ] {
+        let start = start_of(0x1B, message);
+        assert_eq!(reader_after(&delivered(type_before, before), &start), reader(&start));
+    }
+}
+
+#[test]
+fn what_comes_between_leaves_the_gap_due() {
+    let told = format!("I\n{CARD}");
+    let beep = sent(BEEP, HOST, 0, &[1]);
+    let set = form_text(&set_of(OTHERS, &[0x89]));
+    let too_long = start(4_097);
+    for between in [&beep, "03 . ", "/", "T", ACK, NAK_2, OFF, &set, "W U", "L ;", &too_long, "K 00 00 ; 04 K FF FF ;"]
+    {
+        for before in [delivered(0x1B, b"8"), start(1) + NAK_2] {
+            let whole = reader(&format!("{before} {between} {}", start(1)));
+            assert!(whole.ends_with(&told), "{between:?}");
+        }
+    }
+    // A start that is refused on the way tells nothing, and the message out is the one before.
+    let on_the_way = format!("{} {} {ACK}", start(1), start_of(0x1C, b"9"));
+    assert_eq!(reader_after(&on_the_way, &start_of(0x1C, b"9")), reader(&start_of(0x1C, b"9")));
+    assert_eq!(reader_after(&on_the_way, &start(1)), told);
+    let failed = format!("{} {NAK_2} {too_long}", start(2));
+    assert_eq!(reader_after(&format!("{} {NAK_2}", start(2)), &too_long), "R 11\n");
+    assert_eq!(reader_after(&failed, &start(1)), told);
+}
+
+#[test]
+fn power_up_forgets_that_a_gap_is_due() {
+    for before in [delivered(0x1B, b"8"), start(1) + NAK_2, start(1), start(5) + "T T T"] {
+        assert_eq!(reader_after(&(before + "P"), &start(1)), CARD);
+    }
 }
 
 #[test]
@@ -934,12 +1123,20 @@ fn a_run_is_judged_by_its_end_too() {
 
 #[test]
 fn cases_9_and_10_as_the_line_expects_them() {
+    let bytes: Vec<u8> = (0..4_096).map(|i: usize| (i / 250) as u8).collect();
     for (size, count, last) in [(0, 1, 0), (250, 1, 250), (251, 2, 1), (500, 2, 250), (4_096, 17, 96)] {
-        let message = crate::hub::Message { code_type: 0x1B, bytes: vec![7; size] };
+        let message = crate::hub::Message { code_type: 0x1B, bytes: bytes[..size].to_vec() };
         let packets = crate::line::packets_of(&message);
         assert_eq!(packets.len(), count);
         assert_eq!(packets[count - 1].len(), HEADER + 1 + last + CHECKSUM);
         assert!(packets[..count - 1].iter().all(|packet| packet[3] == MORE && packet.len() == LONGEST));
         assert_eq!(packets[count - 1][3], 0);
+    }
+    // Equal bytes, which the line cuts by itself.
+    for size in 0..=4_096 {
+        let message = crate::hub::Message { code_type: 0x1B, bytes: vec![7; size] };
+        let packets = crate::line::packets_of(&message);
+        let sizes: Vec<usize> = packets.iter().map(|packet| packet.len() - HEADER - 1 - CHECKSUM).collect();
+        assert_eq!(sizes, pieces(&message.bytes));
     }
 }

@@ -7,6 +7,7 @@ use crate::reader::{Reader, Step, Switches, ALL, ANSWER_ROOM};
 use crate::sender::End;
 use crate::sights::{bit_alone, Name, Sights};
 use crate::table::{place, Table, ACK_NAK, HIGHEST_BEEP, NO_BEEP, ROWS, TRIGGER};
+use crate::watch_cards::{Between, CardWatch, CARD_NAMES};
 use crate::watch_room::{FramerLook, RoomWatch, ROOM_NAMES};
 use crate::watch_sets::{SetWatch, SET_NAMES};
 
@@ -158,6 +159,7 @@ pub struct ReaderWatch {
     joined: bool,
     room: RoomWatch,
     sets: SetWatch,
+    cards: CardWatch,
     /// The answer room is too small.
     small: bool,
     /// A power-up has changed present values, and they were not shown since.
@@ -168,12 +170,13 @@ impl ReaderWatch {
     pub fn new(desk: bool) -> ReaderWatch {
         let desks = ROOM_NAMES.iter().chain(&DESK_NAMES).filter(|_| desk);
         ReaderWatch {
-            sights: Sights::new(NAMES.iter().chain(&SET_NAMES).chain(desks)),
+            sights: Sights::new(NAMES.iter().chain(&SET_NAMES).chain(&CARD_NAMES).chain(desks)),
             last: None,
             forgotten: None,
             joined: false,
             room: RoomWatch::default(),
             sets: SetWatch::default(),
+            cards: CardWatch::default(),
             small: false,
             brought_back: false,
         }
@@ -239,6 +242,7 @@ impl ReaderWatch {
         self.sets.load(before, form, &mut self.sights);
         self.in_small_room(usize::from(loaded.is_err()));
         if loaded.is_ok() {
+            self.cards.between(Between::Set);
             self.forget(AFTER_SET);
         } else if let Some(last) = &mut self.last {
             last.set_refused = true;
@@ -271,6 +275,7 @@ impl ReaderWatch {
 
     fn refused(&mut self, before: ReaderLook, refusal: Refusal, step: &Step) {
         self.sights.refusal(refusal);
+        self.cards.between(Between::Refusal);
         if let Some(last) = &mut self.last {
             last.refused_since = true;
         }
@@ -391,6 +396,9 @@ impl ReaderWatch {
         let idle_bit = packet.status() & PERMANENT != 0 && packet.opcode() != PARAM_SEND;
         self.sights.see_if(idle_bit, "bit 3 without meaning, command acted on");
         self.compared_with_last(packet);
+        if step.answer.is_some() {
+            self.cards.between(Between::Command);
+        }
         self.by_opcode(before, packet, step, turned);
         self.sets.acted_on(before.table, packet, *reader.table(), &mut self.sights);
         let body = packet.without_mark();
@@ -521,6 +529,7 @@ impl ReaderWatch {
     fn sent(&mut self, before: ReaderLook, step: &Step, cause: Option<u8>) {
         if before.waits {
             self.sets.sent(step, &mut self.sights);
+            self.cards.sent(step, &mut self.sights);
         }
         let third = step.copy.is_some() && cause.is_some() && before.resends == 1;
         self.sights.see_if(third, "third copy of a packet");
@@ -551,10 +560,13 @@ impl ReaderWatch {
         self.sent(before, step, Some(0));
     }
 
-    pub fn start(&mut self, before: ReaderLook, size: usize, step: &Step) {
+    /// A message with its code type in front.
+    pub fn start(&mut self, before: ReaderLook, message: &[u8], step: &Step) {
         if let Some(refusal) = step.refusal {
             self.sights.refusal(refusal);
+            self.cards.between(Between::Start);
         }
+        let size = message.len() - 1;
         let small = step.copy.is_some() && self.small;
         self.sights.see_if(small, "start in a room too small for answers");
         if before.waits {
@@ -564,6 +576,7 @@ impl ReaderWatch {
             self.sights.see_member("start of over 4,096: 4,097, more", member);
         } else {
             self.sent(before, step, None);
+            self.cards.start(message, step, &mut self.sights);
         }
     }
 
@@ -583,6 +596,7 @@ impl ReaderWatch {
         self.sights.see_if(before.table.permanent[nine_f] == 0, "power-up keeps 9Fh off");
         self.forget(AFTER_POWER_UP);
         self.sets.power_up(before.table, &mut self.sights);
+        self.cards.power_up();
         self.joined = false;
     }
 }

@@ -125,10 +125,11 @@ peer_hub_told peer_hub_event(peer_hub *hub, uint32_t event);
 
 typedef struct {
     bool out;        // a message is out
-    bool gap_due;    // the message before failed
+    uint8_t before;  // how the message before ended: PEER_DELIVERED, PEER_FAILED; PEER_NOTHING where there was none
     uint8_t code;    // of the message
     uint8_t resends; // marked copies of the present packet
     uint8_t marked;  // marked copies of the whole message
+    uint8_t piece;   // so many bytes of the message are the present piece
     uint16_t size;   // of the message
     uint16_t place;  // where the present piece starts in it
     uint8_t message[PEER_MESSAGE_SIZE];
@@ -137,6 +138,7 @@ typedef struct {
 
 typedef struct {
     uint8_t number; // PEER_COPY, PEER_DELIVERED, PEER_FAILED, PEER_NOTHING or PEER_START
+    bool gap;       // PEER_COPY: it is a message's first, and a message gap is due before it
     uint16_t value; // PEER_COPY: so many bytes are to be sent; PEER_DELIVERED, PEER_FAILED: marked copies
 } peer_sent;
 

@@ -29,8 +29,8 @@ pub const SET: usize = 30;
 #[derive(Clone, Copy, Default, PartialEq)]
 pub struct Told<'a> {
     pub number: u32,
-    /// The head that the check found; a message's code type; a beep, and 1 where a permanent value changed; how often a
-    /// message was resent.
+    /// The head that the check found; a message's code type; a beep, and 1 where a permanent value changed; 1 where a
+    /// message gap is due before a copy; how often a message was resent.
     pub values: [u8; 4],
     /// What goes on the line: an answer, a copy, a packet that was built. Or a saved set.
     pub packet: &'a [u8],

@@ -4,7 +4,7 @@ use second::framer::LineEvent;
 use second::hub::{self, Done, HubStep};
 use second::packet::{self, Packet, Refusal, CMD_ACK, CMD_NAK, HOST};
 use second::reader::{self, Step};
-use second::sender::{self, End, Sent};
+use second::sender::{self, End, First, Sent};
 
 use crate::calls::{self, Event, Fields, Told, ACK, HUB_ANSWER, MESSAGE, PACKET, READER_ANSWER, SET, TIME_OUT};
 use crate::calls::{ACTED, ADDED, COPY, DELIVERED, FAILED, FOUND, HANDED_OUT, REPEATED, WRITTEN};
@@ -118,6 +118,11 @@ fn sent(sent: Sent, room: &mut [u8]) -> Told<'_> {
     }
 }
 
+/// Of a start, which tells that a message gap is due before its copy, or that none is.
+fn with_gap(gap: bool, told: Told<'_>) -> Told<'_> {
+    Told { values: [gap.into(), 0, 0, 0], ..told }
+}
+
 impl calls::Sender for Sender {
     fn new() -> Sender {
         let nak = |cause| packet::lay_out(CMD_NAK, HOST, 0, &[cause]);
@@ -133,7 +138,7 @@ impl calls::Sender for Sender {
     #[inline(never)]
     fn start(&mut self, code: u8, message: &[u8]) -> Told<'_> {
         match self.sender.start(code, message) {
-            Ok(copy) => sent(Sent::Copy(copy), &mut self.copy),
+            Ok(First { copy, gap }) => with_gap(gap, sent(Sent::Copy(copy), &mut self.copy)),
             Err(refusal) => refused(refusal),
         }
     }
@@ -181,7 +186,8 @@ impl Reader {
 
     pub fn start(&mut self, code: u8, message: &[u8]) -> Told<'_> {
         let step = self.reader.start(code, message);
-        self.told(step)
+        let gap = step.gap;
+        with_gap(gap, self.told(step))
     }
 
     pub fn time_out(&mut self) -> Told<'_> {

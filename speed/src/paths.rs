@@ -16,6 +16,9 @@ use crate::peer::{self, *};
 use crate::stack::{calibrate, measured, Depths, Tells};
 use crate::streams::{self, Dice, Stream};
 
+/// What a start tells: the size of the copy, and whether a message gap is due before it.
+const START_VALUES: usize = 2;
+
 /// Refusals 1, 2 and 3.
 fn add_broken(stream: &mut Stream, opcode: u8, source: u8) {
     let mut packet = lay_out(opcode, source, 0, &[0; PIECE + 1]);
@@ -165,12 +168,15 @@ fn hub(depths: &mut Depths, stream: &Stream) {
     });
 }
 
-/// Sizes of messages, and what a sender hears while they are out: two are delivered, two fail, one is too long.
-fn errands() -> [(usize, Vec<u32>); 5] {
+/// Sizes of messages of equal bytes, and what a sender hears while they are out: four are delivered, of which one has
+/// pieces that are cut and one equals the one before it; two fail, one is too long.
+fn errands() -> [(usize, Vec<u32>); 7] {
     let delivered = [TIME_OUT, NAK_RESEND].into_iter().chain([ACK; MESSAGE.div_ceil(PIECE)]).collect();
     [
         (MESSAGE, delivered),
         (0, vec![ACK, ACK, TIME_OUT]),
+        (PIECE, vec![ACK]),
+        (PIECE, vec![ACK]),
         (PIECE + 1, vec![TIME_OUT; 3]),
         (PIECE, vec![NAK_RESEND + 1]),
         (MESSAGE + 1, vec![]),
@@ -179,7 +185,7 @@ fn errands() -> [(usize, Vec<u32>); 5] {
 
 fn sender(depths: &mut Depths) {
     let (mut control, mut buffer) = ([0; SENDER_CONTROL_SIZE], [0; MESSAGE]);
-    let (mut room, mut value) = ([0; PACKET], 0);
+    let (mut room, mut values, mut value) = ([0; PACKET], [0; START_VALUES], 0);
     let message = [0; MESSAGE + 1];
     measured!(depths, mk_sender_idle(control.as_mut_ptr(), control.len(), true));
     let mut peer = peer::Sender::new();
@@ -196,7 +202,7 @@ fn sender(depths: &mut Depths) {
                     0,
                     message.as_ptr(),
                     size,
-                    &mut value,
+                    &mut values,
                 )
             );
             measured!(depths, peer_sender_send(&mut *peer.0, 0, message.as_ptr(), size));
@@ -273,8 +279,8 @@ impl End {
     }
 
     fn start(&mut self, depths: &mut Depths, size: usize) {
-        let End { control, message, copy, value, peer, .. } = self;
-        let bytes = [0; MESSAGE + 1];
+        let End { control, message, copy, peer, .. } = self;
+        let (bytes, mut values) = ([0; MESSAGE + 1], [0; START_VALUES]);
         measured!(
             depths,
             mk_reader_start(
@@ -286,7 +292,7 @@ impl End {
                 0,
                 bytes.as_ptr(),
                 size,
-                &mut *value,
+                &mut values,
             )
         );
         measured!(depths, peer_reader_send(&mut *peer.0, 0, bytes.as_ptr(), size));

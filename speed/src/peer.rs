@@ -33,10 +33,11 @@ pub struct CHub {
 #[repr(C)]
 pub struct CSender {
     out: bool,
-    gap_due: bool,
+    before: u8,
     code: u8,
     resends: u8,
     marked: u8,
+    piece: u8,
     size: u16,
     place: u16,
     message: [u8; MESSAGE],
@@ -80,6 +81,7 @@ pub struct CHubTold {
 #[repr(C)]
 pub struct CSent {
     pub number: u8,
+    gap: bool,
     value: u16,
 }
 
@@ -196,9 +198,12 @@ impl calls::Machine for Hub {
 
 /// A copy's size is told in the same place as the number of resends.
 #[inline(always)]
-fn sent(sender: &CSender, number: u8, value: u16) -> Told<'_> {
+fn sent(sender: &CSender, CSent { number, gap, value }: CSent) -> Told<'_> {
     match number.into() {
-        calls::COPY => Told { number: calls::COPY, packet: front(&sender.copy, value.into()), ..Told::default() },
+        calls::COPY => {
+            let packet = front(&sender.copy, value.into());
+            Told { number: calls::COPY, values: [gap.into(), 0, 0, 0], packet, message: &[] }
+        }
         number => Told { number, values: [value as u8, 0, 0, 0], ..Told::default() },
     }
 }
@@ -216,14 +221,14 @@ impl calls::Sender for Sender {
 
     #[inline(always)]
     fn start(&mut self, code: u8, message: &[u8]) -> Told<'_> {
-        let CSent { number, value } = unsafe { peer_sender_send(&mut *self.0, code, message.as_ptr(), message.len()) };
-        sent(&self.0, number, value)
+        let told = unsafe { peer_sender_send(&mut *self.0, code, message.as_ptr(), message.len()) };
+        sent(&self.0, told)
     }
 
     #[inline(always)]
     fn hear(&mut self, heard: u32) -> Told<'_> {
-        let CSent { number, value } = unsafe { peer_sender_heard(&mut *self.0, heard) };
-        sent(&self.0, number, value)
+        let told = unsafe { peer_sender_heard(&mut *self.0, heard) };
+        sent(&self.0, told)
     }
 }
 
@@ -244,7 +249,7 @@ impl calls::Machine for Reader {
             unsafe { peer_reader_event(&mut *self.0, event.number()) };
         // What the sender made of an ACK or NAK comes with no answer and no beep.
         if value != 0 {
-            return sent(&self.0.sender, number, value);
+            return sent(&self.0.sender, CSent { number, gap: false, value });
         }
         let [duration, pitch, count] = beep;
         Told {
@@ -274,12 +279,12 @@ impl Reader {
     }
 
     pub fn start(&mut self, code: u8, message: &[u8]) -> Told<'_> {
-        let CSent { number, value } = unsafe { peer_reader_send(&mut *self.0, code, message.as_ptr(), message.len()) };
-        sent(&self.0.sender, number, value)
+        let told = unsafe { peer_reader_send(&mut *self.0, code, message.as_ptr(), message.len()) };
+        sent(&self.0.sender, told)
     }
 
     pub fn time_out(&mut self) -> Told<'_> {
-        let CSent { number, value } = unsafe { peer_reader_expire(&mut *self.0) };
-        sent(&self.0.sender, number, value)
+        let told = unsafe { peer_reader_expire(&mut *self.0) };
+        sent(&self.0.sender, told)
     }
 }

@@ -108,7 +108,7 @@ fn ended(number: u32, copies: usize) -> Told<'static> {
 fn sent(outcome: Outcome<'_>) -> Told<'_> {
     match outcome {
         Outcome::Nothing => Told::default(),
-        Outcome::Copy(packet) => Told { number: COPY, packet, ..Told::default() },
+        Outcome::Copy { copy, gap } => Told { number: COPY, values: [gap.into(), 0, 0, 0], packet: copy, message: &[] },
         Outcome::Delivered { copies } => ended(DELIVERED, copies),
         Outcome::Failed { copies } => ended(FAILED, copies),
         Outcome::Refused(why) => refused(why, &[]),

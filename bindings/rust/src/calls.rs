@@ -7,7 +7,8 @@
 //! Each gives the library's number, and the values that were told with it.
 
 use crate::constants::{
-    GOING_SIZE, HEAD_VALUES, HUB_VALUES, LINE_SIZE, MESSAGE_SIZE, READER_ANSWER_SIZE, READER_VALUES, SWITCH_VALUES,
+    GOING_SIZE, HEAD_VALUES, HUB_VALUES, LINE_SIZE, MESSAGE_SIZE, READER_ANSWER_SIZE, READER_VALUES, START_VALUES,
+    SWITCH_VALUES,
 };
 use crate::raw;
 
@@ -97,8 +98,8 @@ pub(crate) fn sender_start(
     room: &mut [u8],
     code: u8,
     message: &[u8],
-) -> (u32, usize) {
-    let mut value = 0;
+) -> (u32, [usize; START_VALUES]) {
+    let mut values = [0; START_VALUES];
     // SAFETY: the rule above.
     let number = unsafe {
         raw::mk_sender_start(
@@ -110,10 +111,10 @@ pub(crate) fn sender_start(
             code,
             message.as_ptr(),
             message.len(),
-            &mut value,
+            &mut values,
         )
     };
-    (number, value)
+    (number, values)
 }
 
 pub(crate) fn sender_hear(
@@ -155,8 +156,8 @@ pub(crate) fn reader_start(
     copy: &mut [u8],
     code: u8,
     bytes: &[u8],
-) -> (u32, usize) {
-    let mut value = 0;
+) -> (u32, [usize; START_VALUES]) {
+    let mut values = [0; START_VALUES];
     // SAFETY: the rule above.
     let number = unsafe {
         raw::mk_reader_start(
@@ -168,10 +169,10 @@ pub(crate) fn reader_start(
             code,
             bytes.as_ptr(),
             bytes.len(),
-            &mut value,
+            &mut values,
         )
     };
-    (number, value)
+    (number, values)
 }
 
 pub(crate) fn reader_time_out(control: &mut [u8], message: &[u8; MESSAGE_SIZE], copy: &mut [u8]) -> (u32, usize) {

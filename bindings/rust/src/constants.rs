@@ -8,9 +8,9 @@ pub const FRAMER_CONTROL_SIZE: usize = 9;
 /// A hub's control value.
 pub const HUB_CONTROL_SIZE: usize = 29;
 /// A sender's control value.
-pub const SENDER_CONTROL_SIZE: usize = 35;
+pub const SENDER_CONTROL_SIZE: usize = 44;
 /// A reader's control value.
-pub const READER_CONTROL_SIZE: usize = 92;
+pub const READER_CONTROL_SIZE: usize = 101;
 /// The front of a hub's or a reader's control value, for [`mk_go_on`](crate::raw::mk_go_on).
 pub const GOING_SIZE: usize = 10;
 /// The longest packet with its checksum: building, a framer's line, a copy.
@@ -260,6 +260,13 @@ pub const HUB_VALUE_CODE: usize = 1;
 pub const HUB_VALUE_COUNT: usize = 2;
 /// The values of a hub.
 pub const HUB_VALUES: usize = 3;
+
+/// Start, of a copy: so many bytes of the room are to be sent.
+pub const START_VALUE_SIZE: usize = 0;
+/// Start, of a copy: 1 where a message gap is due before it, else 0.
+pub const START_VALUE_GAP: usize = 1;
+/// The values of a start.
+pub const START_VALUES: usize = 2;
 
 /// Reader: so many bytes of the answer room are to be sent.
 pub const READER_VALUE_ANSWER: usize = 0;

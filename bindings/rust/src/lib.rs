@@ -30,7 +30,8 @@
 //! use motikhund::{Event, Outcome, Reader, ReaderTold};
 //!
 //! let mut reader = Reader::new();
-//! let Outcome::Copy(copy) = reader.send(0x1B, b"8") else { panic!("nothing was out") };
+//! let Outcome::Copy { copy, gap } = reader.send(0x1B, b"8") else { panic!("nothing was out") };
+//! assert!(!gap); // else nothing is sent for a message gap before the copy is
 //! let mut sent = copy.to_vec();
 //! for byte in [0x05, 0xD1, 0x04, 0x00, 0x01, 0xFF, 0x25] { // the host's NAK 1: send it again
 //!     let told = reader.event(Event::Byte(byte));
@@ -79,9 +80,15 @@
 //! - At [`HubTold::Message`] the message is whole, and its ACK is not yet sent. Send it, then do slow work. Where
 //!   filing surely ends before the time-out, file first: then a power cut loses nothing that was called delivered.
 //! - Both ends keep silent for a character gap after all that they send. A reader keeps silent for a message gap before
-//!   its first message after power-up, and before one that follows a failed one or begins with a packet equal to the
-//!   one before it: were the first copy of such a packet lost, the hub would take its resend for one of the packet
-//!   before. Two equal pieces in a row inside one message are open to the same mistake.
+//!   the first copy of a message in just two cases: where the start says that one is due ([`Outcome::Copy`]), and before
+//!   the first message after power-up, as power-up forgets what a start says it by. A start says it after a failed
+//!   message, as the hub may hold pieces of that one; and where the message is one packet, equal to the one sent before
+//!   it: were its first copy lost, the hub would take the resend for one of the packet before. No packets need be
+//!   compared for it, and two equal cards in a row come out as two. Inside a message no piece equals the one before it:
+//!   where it would, it is cut one byte shorter.
+//! - That silence counts from the last byte that the reader sent, whatever it was: where that is long ago, nothing is
+//!   left to wait. The message is out already. So while it waits the reader drops what it hears, as while it sends: an
+//!   ACK would count for a packet that nobody has seen, and an answer to a command would end the silence.
 //! - [`ReaderTold::Delivered`]: the hub has the message. [`ReaderTold::Failed`]: it may have it all the same, and only
 //!   its answers were lost.
 //! - A silence that grows may be given again. A second character gap does nothing; a message gap behind a character gap

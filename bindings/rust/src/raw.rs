@@ -15,7 +15,8 @@
 //! `values`). No call keeps a pointer.
 
 use crate::constants::{
-    GOING_SIZE, HEAD_VALUES, HUB_VALUES, LINE_SIZE, MESSAGE_SIZE, READER_ANSWER_SIZE, READER_VALUES, SWITCH_VALUES,
+    GOING_SIZE, HEAD_VALUES, HUB_VALUES, LINE_SIZE, MESSAGE_SIZE, READER_ANSWER_SIZE, READER_VALUES, START_VALUES,
+    SWITCH_VALUES,
 };
 
 extern "C" {
@@ -109,8 +110,10 @@ extern "C" {
     /// As [above](self#safety).
     pub fn mk_sender_idle(control: *mut u8, control_len: usize, failed: bool) -> u32;
 
-    /// Starts a message, which is copied into the buffer: `COPY` and the size of the packet in the room
-    /// (`PACKET_SIZE`), or `Room`, `Start`.
+    /// Starts a message, which is copied into the buffer: `COPY`, with the size of the packet in the room
+    /// (`PACKET_SIZE`) and whether a message gap is due before it; or `Room`, `Start`. The values are `START_VALUE_..`.
+    /// The buffer is the sender's own between calls, also with nothing out: the last packet of the message before stands
+    /// in it, by which the gap is told.
     ///
     /// # Safety
     /// As [above](self#safety).
@@ -123,7 +126,7 @@ extern "C" {
         code: u8,
         message: *const u8,
         message_len: usize,
-        value: *mut usize,
+        values: *mut [usize; START_VALUES],
     ) -> u32;
 
     /// One thing heard of the host (`HEARD_..` or a NAK's cause): `COPY` and its size, `DELIVERED` or `FAILED` and the
@@ -180,7 +183,7 @@ extern "C" {
         code: u8,
         bytes: *const u8,
         bytes_len: usize,
-        value: *mut usize,
+        values: *mut [usize; START_VALUES],
     ) -> u32;
 
     /// As [`mk_sender_hear`] with `HEARD_TIME_OUT`, by the reader's sender.

@@ -96,8 +96,8 @@ pub enum ReaderTold<'a> {
         /// Its marked copies.
         copies: usize,
     },
-    /// The host answered the sender: the message failed, and a message gap is due before the next one. The hub may have
-    /// it all the same, where only its answers were lost.
+    /// The host answered the sender: the message failed, and a message gap is due before the next one, whose start says
+    /// so. The hub may have it all the same, where only its answers were lost.
     Failed {
         /// Its marked copies.
         copies: usize,
@@ -136,7 +136,7 @@ const ON: [u8; READER_CONTROL_SIZE] = {
     control
 };
 
-/// The reader's end of the line: its commands with the parameter table, and its sender. It has 5,009 bytes and an
+/// The reader's end of the line: its commands with the parameter table, and its sender. It has 5,018 bytes and an
 /// alignment of 1.
 #[derive(Clone, Debug, PartialEq, Eq)]
 pub struct Reader {
@@ -148,10 +148,11 @@ pub struct Reader {
     copy: Buffer<PACKET_SIZE>,
 }
 
-const _: () = assert!(size_of::<Reader>() == 5_009 && align_of::<Reader>() == 1);
+const _: () = assert!(size_of::<Reader>() == 5_018 && align_of::<Reader>() == 1);
 
 impl Reader {
-    /// A reader switched on with the house defaults, none locked. A message gap is due before the first message.
+    /// A reader switched on with the house defaults, none locked. A message gap is due before the first message, though
+    /// its start says none.
     pub const fn new() -> Self {
         Self::with(ON)
     }
@@ -182,13 +183,29 @@ impl Reader {
     }
 
     /// Power-up: permanent values are copied to present ones, locks stay; framer, sender and the last accepted packet
-    /// are forgotten. So is whether the message before failed: a message gap is due before the first message after it.
+    /// are forgotten. So are whether the message before failed and what its last packet was: a message gap is due before
+    /// the first message after it, though its start says none.
     pub fn restart(&mut self) {
         // The control bytes have their size: nothing to refuse.
         let _ = reader::power_up(&mut self.control);
     }
 
-    /// Starts a message with its code type. It is copied, so it need not be kept.
+    /// Starts a message with its code type. It is copied, so it need not be kept. The copy says whether a message gap is
+    /// due before it; a start that is refused says nothing and forgets nothing.
+    ///
+    /// Two equal cards in a row are two at the hub, as it hears a message gap between them:
+    ///
+    /// ```
+    /// use motikhund::{Event, Outcome, Reader, ReaderTold};
+    ///
+    /// let mut reader = Reader::new();
+    /// assert!(matches!(reader.send(0x1B, b"8"), Outcome::Copy { gap: false, .. }));
+    /// for byte in [0x04, 0xD0, 0x04, 0x00, 0xFF] { // the host's ACK
+    ///     assert_eq!(reader.event(Event::Byte(byte)), ReaderTold::Nothing);
+    /// }
+    /// assert_eq!(reader.event(Event::Byte(0x28)), ReaderTold::Delivered { copies: 0 });
+    /// assert!(matches!(reader.send(0x1B, b"8"), Outcome::Copy { gap: true, .. }));
+    /// ```
     pub fn send(&mut self, code: u8, message: &[u8]) -> Outcome<'_> {
         reader::start(&mut self.control, &mut self.message.0, &mut self.copy.0, code, message)
     }
@@ -229,8 +246,8 @@ impl Reader {
 
     /// Reads the form of a set: its values are the permanent and the present ones, its locks the only ones, and the
     /// last accepted packet is forgotten, so that a marked repeat of it is a command like any other. All else stays: a
-    /// packet begun, a message out, what is switched on. Nothing goes out on the line. Bytes that are not the form of a
-    /// set are [`Refusal::Form`], with nothing changed.
+    /// packet begun, a message out, what a start says of a gap, what is switched on. Nothing goes out on the line. Bytes
+    /// that are not the form of a set are [`Refusal::Form`], with nothing changed.
     ///
     /// At switch-on a reader takes what was kept; blank flash is refused, and the house defaults stay:
     ///

@@ -14,14 +14,20 @@ pub enum Outcome<'a> {
     /// Nothing.
     Nothing,
     /// A copy of a packet, to be sent with a character gap after it.
-    Copy(&'a [u8]),
+    Copy {
+        /// The packet.
+        copy: &'a [u8],
+        /// A message gap is due before it: it waits until nothing was sent for so long. Only a start says so, after a
+        /// failed message and where the message is one packet, equal to the last one of the message before.
+        gap: bool,
+    },
     /// The message was delivered: the hub has it.
     Delivered {
         /// Its marked copies.
         copies: usize,
     },
-    /// The message failed; a message gap is due before the next one. The hub may have it all the same, where only its
-    /// answers were lost.
+    /// The message failed; a message gap is due before the next one, whose start says so. The hub may have it all the
+    /// same, where only its answers were lost.
     Failed {
         /// Its marked copies.
         copies: usize,
@@ -33,7 +39,7 @@ pub enum Outcome<'a> {
 /// Where the control value says that the message before failed; all else in an idle one is 0.
 const FAILED_BEFORE: usize = 2;
 
-/// A message cut into packets, each copied to the line until it is acknowledged. It has 4,388 bytes and an alignment of
+/// A message cut into packets, each copied to the line until it is acknowledged. It has 4,397 bytes and an alignment of
 /// 1.
 #[derive(Clone, Debug, PartialEq, Eq)]
 pub struct Sender {
@@ -42,7 +48,7 @@ pub struct Sender {
     copy: Buffer<PACKET_SIZE>,
 }
 
-const _: () = assert!(size_of::<Sender>() == 4_388 && align_of::<Sender>() == 1);
+const _: () = assert!(size_of::<Sender>() == 4_397 && align_of::<Sender>() == 1);
 
 impl Sender {
     /// A sender with nothing out.
@@ -50,14 +56,15 @@ impl Sender {
         Self::idle(false)
     }
 
-    /// A sender with nothing out, after a message that failed or not.
+    /// A sender with nothing out and no packet before, after a message that failed or not.
     pub const fn idle(failed: bool) -> Self {
         let mut control = [0; SENDER_CONTROL_SIZE];
         control[FAILED_BEFORE] = failed as u8;
         Sender { control, message: Buffer::new(), copy: Buffer::new() }
     }
 
-    /// Starts a message with its code type. It is copied, so it need not be kept.
+    /// Starts a message with its code type. It is copied, so it need not be kept. The copy says whether a message gap is
+    /// due before it; a start that is refused says nothing and forgets nothing.
     pub fn send(&mut self, code: u8, message: &[u8]) -> Outcome<'_> {
         sender::start(&mut self.control, &mut self.message.0, &mut self.copy.0, code, message)
     }

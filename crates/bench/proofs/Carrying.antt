@@ -6,8 +6,7 @@ use mathlib.Core.Bool.{false}
 use mathlib.Core.List.{List, [], _∷_, _++_}
 use native.Mathlib.Omega.{arith}
 use lib.Dec.{eqb}
-use lib.ListN.{length, getD, take, drop, length-drop}
-use lib.Seq.{length-take-le}
+use lib.ListN.{length, getD, take, drop}
 use borrow.Author.Tests.{eq-eqb}
 use Rattle.words.specs.Lists.{Bytes, sameBytes}
 use Rattle.words.proofs.Lists.{bytes-cons, bytes-take, bytes-drop, both-false, same-refl}
@@ -20,8 +19,10 @@ use Rattle.packet.proofs.Marks.{unmarked-of, marked-of}
 use Rattle.hub.specs.Joiner.{Gathered, none, some, Joiner, Output, added, repeated, handed, acknowledged, otherType, bytesOf}
 use Rattle.hub.specs.Hub.{packetStep}
 use Rattle.hub.proofs.Theorems.{repeat-acknowledged, piece-decodes}
-use Rattle.sender.specs.Pieces.{bodiesOf, packetsOf}
-use Rattle.sender.proofs.Cutting.{Cut, last, more, pieces-are-cut, cut-some, bodies-more}
+use Rattle.sender.specs.Pieces.{nextSize, bodiesOf, packetsOf}
+use Rattle.sender.proofs.Cutting.{Cut, last, more, left-behind, pieces-are-cut, cut-some, bodies-more}
+use Rattle.sender.proofs.Pieces as apart
+use Rattle.sender.proofs.Pieces.{Apart, cut-apart}
 use Rattle.bench.specs.Bench.{Message, handing, hubAnswers}
 use Rattle.bench.proofs.Whole.{pieceBody, Takes, no-repeat, piece-added, piece-handed, takes-less, takes-rest, piece-first}
 
@@ -55,7 +56,12 @@ pub record Sendable (p : List ℕ) : Type 0 where
 -- These packets still carry the hub from what is gathered to the whole message.
 pub data Carries (code : ℕ) (whole : List ℕ) : Gathered → List (List ℕ) → Type 0 where
   ends : {g : Gathered} {p : List ℕ} → Sendable p → Moves g p (handed code whole) none → Carries code whole g (p ∷ [])
-  goes : {g g′ : Gathered} {p : List ℕ} {ps : List (List ℕ)} → Sendable p → Moves g p added g′ → Carries code whole g′ ps → Carries code whole g (p ∷ ps)
+  goes : {g g′ : Gathered} {p q : List ℕ} {qs : List (List ℕ)} → Sendable p → Moves g p added g′ → New p q → Carries code whole g′ (q ∷ qs) → Carries code whole g (p ∷ q ∷ qs)
+
+-- The packet behind one that is added is another one.
+carry-on : {code : ℕ} {whole : List ℕ} {g g′ : Gathered} {p : List ℕ} {ps : List (List ℕ)} → Sendable p → Moves g p added g′ → Apart (p ∷ ps) → Carries code whole g′ ps →
+    Carries code whole g (p ∷ ps)
+carry-on s m (apart.next n a) k = goes s m n k
 
 -- ---- one piece
 
@@ -125,21 +131,26 @@ module _ (g : Gathered) (code : ℕ) (p : List ℕ) (room : Room g code (length 
 
 -- ---- a message
 
-pieces-carry : (code : ℕ) {m : List ℕ} {ps : List (List ℕ)} (g : Gathered) → code < 256 → Bytes m → Cut m ps → Room g code (length m) →
+pieces-carry : (code : ℕ) {b m : List ℕ} {ps : List (List ℕ)} (g : Gathered) → code < 256 → Bytes m → Cut b m ps → Room g code (length m) →
     Carries code (bytesOf g ++ m) g (bodiesOf code ps)
 unfolding bodiesOf bytesOf
-pieces-carry code g c bytes (last {m} h) room = ends (sendable 0 code m refl (omega arith) c bytes h) (last-moves g code m room)
-pieces-carry code g c bytes (more {m} {ps} h k) room =
-    let p = take 250 m in
-    let rest = drop 250 m in
-    let front = length-take-le 250 m (omega arith) in
-    let behind = length-drop 250 m in
+pieces-carry code g c bytes (last {m = m} h) room = ends (sendable 0 code m refl (omega arith) c bytes h) (last-moves g code m room)
+pieces-carry code g c bytes (more {b} {m} {ps} h k) room =
+    let n = nextSize b m in
+    let p = take n m in
+    let rest = drop n m in
+    let w = left-behind b m h in
+    let front = w .front in
+    let behind = w .behind in
+    let inside = w .some in
+    let few = w .takes .most in
     let some-left = cut-some k in
+    let apart : Apart (bodiesOf code (p ∷ ps)) = cut-apart code (more {b = b} {m = m} h k) in
     let fits : Room g code (length p) = λ l. takes-less (omega arith) (room l) in
     let left : Room (some code (bytesOf g ++ p)) code (length rest) = room-behind (takes-rest (free [] g) 2 code p (takes-less (omega arith) (room []))) in
-    rw (bodies-more code p ps some-left, piece-first (bytesOf g) m)
-    (goes (sendable 2 code p refl (omega arith) c (bytes-take 250 bytes) (omega arith)) (more-moves g code p fits)
-    (pieces-carry code (some code (bytesOf g ++ p)) c (bytes-drop 250 bytes) k left))
+    rw (bodies-more code p ps some-left, piece-first n (bytesOf g) m)
+    (carry-on (sendable 2 code p refl (omega arith) c (bytes-take n bytes) (omega arith)) (more-moves g code p fits) (rw (bodies-more code p ps some-left) at apart)
+    (pieces-carry code (some code (bytesOf g ++ p)) c (bytes-drop n bytes) k left))
 
 -- The packets of any message carry a hub that has gathered nothing to that message.
 pub packets-carry : (code : ℕ) (m : List ℕ) → code < 256 → Bytes m → length m ≤ messageSize → Carries code m none (packetsOf code m)
@@ -148,24 +159,23 @@ packets-carry code m c bytes few = pieces-carry code none c bytes (pieces-are-cu
 
 -- ---- the next packet
 
--- The hub has a packet: those behind it still carry on, or there are none and the message is handed out.
-pub data Onward (code : ℕ) (whole : List ℕ) : Gathered → List (List ℕ) → List Message → List Message → Type 0 where
-  goes-on : {g : Gathered} {q : List ℕ} {qs : List (List ℕ)} {xs : List Message} → Carries code whole g (q ∷ qs) → Onward code whole g (q ∷ qs) xs xs
-  came-out : {xs : List Message} → Onward code whole none [] xs (record { code = code; bytes = whole } ∷ xs)
+-- The hub has a packet: those behind it, of which the next is another one, still carry on, or there are none and the message is handed out.
+pub data Onward (code : ℕ) (whole p : List ℕ) : Gathered → List (List ℕ) → List Message → List Message → Type 0 where
+  goes-on : {g : Gathered} {q : List ℕ} {qs : List (List ℕ)} {xs : List Message} → New p q → Carries code whole g (q ∷ qs) → Onward code whole p g (q ∷ qs) xs xs
+  came-out : {xs : List Message} → Onward code whole p none [] xs (record { code = code; bytes = whole } ∷ xs)
 
 pub record Next (code : ℕ) (whole : List ℕ) (g : Gathered) (p : List ℕ) (ps : List (List ℕ)) : Type 0 where
   pub told : Output
   pub acked : hubAnswers (acknowledged told) ≡ seal (replyBody host Ack) ∷ []
   pub gathered : Gathered
   pub moves : Moves g p told gathered
-  pub onward : (xs : List Message) → Onward code whole gathered ps xs (handing (acknowledged told) xs)
+  pub onward : (xs : List Message) → Onward code whole p gathered ps xs (handing (acknowledged told) xs)
 
 pub first-sendable : {code : ℕ} {whole : List ℕ} {g : Gathered} {p : List ℕ} {ps : List (List ℕ)} → Carries code whole g (p ∷ ps) → Sendable p
 first-sendable (ends s m) = s
-first-sendable (goes s m k) = s
+first-sendable (goes s m n k) = s
 
 pub next : {code : ℕ} {whole : List ℕ} {g : Gathered} {p : List ℕ} {ps : List (List ℕ)} → Carries code whole g (p ∷ ps) → Next code whole g p ps
 unfolding hubAnswers handing
 next {code} {whole} (ends s m) = record { told = handed code whole; acked = refl; gathered = none; moves = m; onward = λ xs. came-out }
-next (goes {g′ = g′} s m (ends s′ m′)) = record { told = added; acked = refl; gathered = g′; moves = m; onward = λ xs. goes-on (ends s′ m′) }
-next (goes {g′ = g′} s m (goes s′ m′ k)) = record { told = added; acked = refl; gathered = g′; moves = m; onward = λ xs. goes-on (goes s′ m′ k) }
+next (goes {g′ = g′} s m n k) = record { told = added; acked = refl; gathered = g′; moves = m; onward = λ xs. goes-on n k }

@@ -17,9 +17,8 @@ use Rattle.reader.specs.Reader.{ReaderState}
 use Rattle.bench.specs.Bench.{delivered, failed, out, Message, Sheet, Bench, Move, benchStep, played, FairMove, fair-start, fair-try, bench}
 use Rattle.bench.specs.Delivery.{Ready, onLine, apart, nothing, Thrice, waitingAt, from-latest, inOrder, Delivers}
 use Rattle.bench.proofs.Carrying.{free}
-use Rattle.bench.proofs.Growing.{apart-before}
 use Rattle.bench.proofs.Rounds.{benchOf}
-use Rattle.bench.proofs.Standing.{lastOn, Past, Rested, gap-due, ready, packetOf, present, at-most-thrice, not-ended, Stands, at-rest, at-work, Standing, standing}
+use Rattle.bench.proofs.Standing.{lastOn, no-packet, Past, Rested, gap-due, ready, packetOf, present, at-most-thrice, not-ended, Stands, at-rest, at-work, Standing, standing}
 use Rattle.bench.proofs.Starting.{start-stands}
 use Rattle.bench.proofs.Trying.{try-stands}
 
@@ -28,7 +27,7 @@ use Rattle.bench.proofs.Trying.{try-stands}
 stands-delivers : {j : Joiner} {s : SenderState} {sheet : Sheet} {ms : List Message} (r : ReaderState) → Stands j s sheet ms → Delivers (benchOf r j s sheet ms)
 unfolding inOrder waitingAt
 stands-delivers r (at-rest q f past k) = record { hands-out = past .hands-out; honest = past .honest; sends = past .sends; nothing-else = refl }
-stands-delivers r (at-work {code} {bytes} {p} {ps} {ts} {older} {g = g} w h has) =
+stands-delivers r (at-work {code} {bytes} {p} {ps} {ts} {older} {g = g} w h has a) =
     let thrice : Thrice 1 (packetOf p (length ts) ts) = at-most-thrice ts (w .few) (omega arith) in
     record {
       hands-out = not-ended (present code bytes g out p (length ts) ts older) (λ e. never (cc)) refl h has;
@@ -37,24 +36,28 @@ stands-delivers r (at-work {code} {bytes} {p} {ps} {ts} {older} {g = g} w h has)
       nothing-else = refl;
     }
 
+stands-apart : {j : Joiner} {s : SenderState} {sheet : Sheet} {ms : List Message} → Stands j s sheet ms → apart (onLine (sheet .log)) ≡ true
+unfolding onLine
+stands-apart (at-rest q f past k) = past .apart-line
+stands-apart (at-work w h has a) = a
+
 -- ---- every move keeps it standing
 
-step-stands : {r : ReaderState} {b : Bench} {m : Move} → FairMove m → Standing r b → apart (onLine (benchStep b m .sheet .log)) ≡ true → Standing r (benchStep b m)
-step-stands {r} (fair-start {code} {m} c bytes) k a = rw (k .is) (start-stands r code m c bytes (k .stands) (rw (k .is) at a))
-step-stands {r} (fair-try {t} going coming) k a = rw (k .is) (try-stands r t going coming (k .stands) (rw (k .is) at a))
+step-stands : {r : ReaderState} {b : Bench} {m : Move} → FairMove m → Standing r b → Standing r (benchStep b m)
+step-stands {r} (fair-start {code} {m} c bytes) k = rw (k .is) (start-stands r code m c bytes (k .stands))
+step-stands {r} (fair-try {t} going coming) k = rw (k .is) (try-stands r t going coming (k .stands))
 
-played-stands : {r : ReaderState} {moves : List Move} (b : Bench) → Each FairMove moves → Standing r b → apart (onLine (played b moves .sheet .log)) ≡ true →
-    Standing r (played b moves)
+played-stands : {r : ReaderState} {moves : List Move} (b : Bench) → Each FairMove moves → Standing r b → Standing r (played b moves)
 unfolding played
-played-stands b none k a = k
-played-stands b (one {x = m} {xs = ms} h hs) k a = played-stands (benchStep b m) hs (step-stands h k (apart-before (benchStep b m) ms a)) a
+played-stands b none k = k
+played-stands b (one {x = m} h hs) k = played-stands (benchStep b m) hs (step-stands h k)
 
 -- ---- the start
 
-first-rest : (f : Bool) → Rested [] f (free [] joiner.none)
+first-rest : (last : List ℕ) (f : Bool) → Rested [] last f (free [] joiner.none)
 unfolding lastOn onLine
-first-rest true = gap-due
-first-rest false = ready
+first-rest last true = gap-due
+first-rest last false = ready no-packet
 
 nothing-queued : (q : List (List ℕ)) → some q ≡ false → q ≡ []
 unfolding some
@@ -68,17 +71,24 @@ unfolding bench hubStep cleared
 bench-is hub reader k = ap (λ (l : Line). bench hub (record { line = l; core = reader .core })) (k .idle)
 
 bench-stands : (hub : HubState) (reader : ReaderState) → Ready reader → Standing reader (bench hub reader)
+unfolding onLine apart
 bench-stands hub reader k =
     let s = reader .core .sender in
-    let past : Past [] [] = record { hands-out = nothing; honest = none; sends = none } in
-    rw (bench-is hub reader k) (standing (at-rest (nothing-queued (s .queue) (k .nothing-out)) refl past (first-rest (s .failed))))
+    let past : Past [] [] = record { hands-out = nothing; honest = none; sends = none; apart-line = refl } in
+    rw (bench-is hub reader k) (standing (at-rest (nothing-queued (s .queue) (k .nothing-out)) refl past (first-rest (s .last) (s .failed))))
 
--- ---- the theorem
+-- ---- the theorems
 
--- Whatever becomes of copies and answers: if no two neighbouring packets on the line are equal, unless a message gap came between, the hub
--- hands out the messages in order and once each, no packet is sent more than three times, and only three bad tries of one packet fail.
-pub demand-3 : (hub : HubState) (reader : ReaderState) (moves : List Move) → Ready reader → Each FairMove moves →
-    apart (onLine (played (bench hub reader) moves .sheet .log)) ≡ true → Delivers (played (bench hub reader) moves)
-demand-3 hub reader moves k fair a =
-    let end = played-stands (bench hub reader) fair (bench-stands hub reader k) a in
-    rw (end .is) (stands-delivers reader (end .stands))
+-- Every run of the bench.
+pub run-stands : (hub : HubState) (reader : ReaderState) (moves : List Move) → Ready reader → Each FairMove moves → Standing reader (played (bench hub reader) moves)
+run-stands hub reader moves k fair = played-stands (bench hub reader) fair (bench-stands hub reader k)
+
+-- Whatever becomes of copies and answers: the hub hands out the messages in order and once each, no packet is sent more than three times, and only
+-- three bad tries of one packet fail.
+pub demand-3 : (hub : HubState) (reader : ReaderState) (moves : List Move) → Ready reader → Each FairMove moves → Delivers (played (bench hub reader) moves)
+demand-3 hub reader moves k fair = let end = run-stands hub reader moves k fair in rw (end .is) (stands-delivers reader (end .stands))
+
+-- What the sender puts on the line: no two neighbouring packets are equal, unless a message gap came between.
+pub line-apart : (hub : HubState) (reader : ReaderState) (moves : List Move) → Ready reader → Each FairMove moves →
+    apart (onLine (played (bench hub reader) moves .sheet .log)) ≡ true
+line-apart hub reader moves k fair = let end = run-stands hub reader moves k fair in rw (end .is) (stands-apart (end .stands))

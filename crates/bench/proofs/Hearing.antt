@@ -25,7 +25,7 @@ use Rattle.hub.specs.Hub.{HubState, hubStep}
 use Rattle.hub.specs.Hub as hub
 use Rattle.hub.proofs.Theorems.{idle}
 use Rattle.hub.proofs.Calm.{Calm, ends, gap, calm-append, calm-bytes, calm-run}
-use Rattle.sender.specs.Sender.{SenderState, some, Sent, fails, resends, outStep, senderStep, heedOf}
+use Rattle.sender.specs.Sender.{SenderState, sending, some, Sent, fails, resends, outStep, senderStep, heedOf}
 use Rattle.sender.specs.declared.Heard.the-variants as heard
 use Rattle.sender.specs.declared.Heard.{Heard as ForSender}
 use Rattle.reader.specs.Reader.{ReaderState, CoreState, Output, sent, refused, noPacketStep, senderHears, packetStep, heardStep, readerStep, withCore, timeOut}
@@ -76,8 +76,8 @@ abbrev pub withSender : ReaderState → SenderState → ReaderState
 withSender r s = record { line = hearing []; core = record { device = r .core .device; last = r .core .last; lastAnswer = r .core .lastAnswer; sender = s } }
 
 -- A sender with a message out.
-abbrev pub busy : List ℕ → List (List ℕ) → ℕ → ℕ → Bool → SenderState
-busy p ps n k f = record { queue = p ∷ ps; resends = n; copies = k; failed = f }
+abbrev pub busy : List ℕ → List (List ℕ) → ℕ → ℕ → SenderState
+busy p ps n k = sending (p ∷ ps) n k
 
 -- The two answers that a hub gives to copies, and what the sender hears of them.
 pub data Says : Reply → ForSender → Type 0 where
@@ -106,12 +106,12 @@ unfolding resends fails
 resends-something true p s e f = let g = simp e at f in never (cc)
 resends-something false p s e f = let g = simp e at f in never (cc)
 
-module _ (p : List ℕ) (n k : ℕ) (f : Bool) where
-  answers-something : {x : Reply} {h : ForSender} (ps : List (List ℕ)) → Says x h → senderStep (busy p ps n k f) h .told ≡ [] → ⊥
+module _ (p : List ℕ) (n k : ℕ) where
+  answers-something : {x : Reply} {h : ForSender} (ps : List (List ℕ)) → Says x h → senderStep (busy p ps n k) h .told ≡ [] → ⊥
   unfolding senderStep outStep
   answers-something [] ack e = never (cc)
   answers-something (q ∷ ps) ack e = never (cc)
-  answers-something ps again e = resends-something (ltb n 2) p (busy p ps n k f) refl e
+  answers-something ps again e = resends-something (ltb n 2) p (busy p ps n k) refl e
 
 -- What a reader does with events: a time-out follows where its sender says nothing.
 abbrev pub answeredIn : ReaderState → List Event → Done ReaderState Output
@@ -137,9 +137,9 @@ pub data ReaderHears (r : ReaderState) (s : SenderState) (h : ForSender) : Fate 
   in-time : {d : Done ReaderState Output} → Hears r s h d → ReaderHears r s h whole d
   too-late : {f : Fate} {d : Done ReaderState Output} → arrived f ≡ false → Hears r s heard.TimeOut d → ReaderHears r s h f d
 
-module _ (r : ReaderState) (p : List ℕ) (ps : List (List ℕ)) (n k : ℕ) (g : Bool) where
+module _ (r : ReaderState) (p : List ℕ) (ps : List (List ℕ)) (n k : ℕ) where
   abbrev waiting : SenderState
-  waiting = busy p ps n k g
+  waiting = busy p ps n k
 
   abbrev core : CoreState
   core = withSender r waiting .core
@@ -175,7 +175,7 @@ module _ (r : ReaderState) (p : List ℕ) (ps : List (List ℕ)) (n k : ℕ) (g 
   answer-in-time {x} {h} w =
       let told = senderStep waiting h .told in
       let step = withCore (withSender r waiting) (senderHears core (senderStep waiting h)) in
-      rw (answer-heard w, sent-sent told, no-time-out told step (answers-something p n k g ps w)) (told-sent h)
+      rw (answer-heard w, sent-sent told, no-time-out told step (answers-something p n k ps w)) (told-sent h)
 
   reader-by : {x : Reply} {h : ForSender} {f : Fate} {hs : List Heard} → Says x h → Comes (replyBody host x) f hs →
       ReaderHears r waiting h f (inTime (sentOf (onHearing hs .told)) (onHearing hs))

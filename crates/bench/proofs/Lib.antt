@@ -2,7 +2,7 @@ pub mod Arriving
 pub mod Carrying
 pub mod Cases
 pub mod Demand3
-pub mod Growing
+pub mod Ending
 pub mod Hearing
 pub mod Opening
 pub mod Rounds

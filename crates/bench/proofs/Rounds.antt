@@ -67,10 +67,10 @@ unfolding trial
 trial-some b t [] h = absurd (omega arith)
 trial-some b t (x ∷ xs) h = refl
 
-module _ (r : ReaderState) (p : List ℕ) (ps : List (List ℕ)) (n k : ℕ) (g : Bool) (c : List ℕ) (log : List Begun) (j j′ : Joiner) (o : joiner.Output)
+module _ (r : ReaderState) (p : List ℕ) (ps : List (List ℕ)) (n k : ℕ) (c : List ℕ) (log : List Begun) (j j′ : Joiner) (o : joiner.Output)
     (ms : List Message) where
   abbrev s : SenderState
-  s = busy p ps n k g
+  s = busy p ps n k
 
   abbrev b : Bench
   b = benchOf r j s (record { copy = c; log = log }) ms
@@ -112,12 +112,12 @@ module _ (r : ReaderState) (p : List ℕ) (ps : List (List ℕ)) (n k : ℕ) (g 
         Rounds (tryOf going coming) (tried b (tryOf going coming) hd (answeredIn (withSender r s) (answers coming (hd .told))))
     unfolding flatMap handing hubAnswers
     round-by coming fair takes =
-        rw (takes-it, one-answer reply.Ack coming (joiner.acknowledged o) acked) (took (reader-hears r p ps n k g ack (arrival (replyBody host reply.Ack) (reply-body ack) fair)))
-    round-by coming fair (misses e) = left-as-it-was [] e refl time (reader-waits r p ps n k g)
+        rw (takes-it, one-answer reply.Ack coming (joiner.acknowledged o) acked) (took (reader-hears r p ps n k ack (arrival (replyBody host reply.Ack) (reply-body ack) fair)))
+    round-by coming fair (misses e) = left-as-it-was [] e refl time (reader-waits r p ps n k)
     round-by coming fair (refuses {r = x} e) =
         let told : List joiner.Output = joiner.refused x ∷ joiner.answered (seal (replyBody host (reply.Nak 1))) ∷ [] in
         rw (one-answer (reply.Nak 1) coming told refl)
-        (refused-copy told e refl (reader-hears r p ps n k g again (arrival (replyBody host (reply.Nak 1)) (reply-body again) fair)))
+        (refused-copy told e refl (reader-hears r p ps n k again (arrival (replyBody host (reply.Nak 1)) (reply-body again) fair)))
 
     -- A fair try of a copy on the line is one of the three.
     pub round : (t : Try) → Body c → Fair (t .going) → Fair (t .coming) → Rounds t (benchStep b (attempt t))

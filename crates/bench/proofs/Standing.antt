@@ -1,26 +1,31 @@
 -- How a bench stands between two moves. At rest: nothing is out, and a gap is due or the hub has gathered nothing and accepted last what
--- the line carried last. At work: a packet is out, all its tries so far were bad, and the hub has it not yet, or has it already. Assumes nothing.
-use Prim.Native.Nat.{ℕ, _%_, _≤_, zero, suc, _+_}
+-- the line carried last, which is the sender's last packet or none. At work: a packet is out, all its tries so far were bad, and the hub has it not
+-- yet, or has it already. Assumes nothing.
+use Prim.Native.Nat.{ℕ, _%_, _*_, _-_, _≤_, zero, suc, _+_}
 use mathlib.Core.Path.{_≡_, refl, ap, _∙_}
-use mathlib.Core.Bool.{Bool, true, false, not}
+use mathlib.Core.Bool.{Bool, true, false}
 use mathlib.Core.List.{List, [], _∷_, _++_}
 use native.Mathlib.Omega.{arith}
 use lib.Dec.{eqb}
 use lib.ListN.{length, getD, replicate}
-use borrow.Author.Tests.{not-true, eq-eqb}
-use Rattle.words.specs.Lists.{pick, sameBytes, Each, none, one}
-use Rattle.words.proofs.Lists.{both-left, same-refl, same-equal, never}
+use borrow.Author.Tests.{eq-eqb}
+use Rattle.words.specs.Lists.{pick, either, sameBytes, Each, none, one}
+use Rattle.words.specs.Machine.{through}
+use Rattle.words.proofs.Lists.{same-refl, same-equal, never}
 use Rattle.packet.specs.Opcodes.{host}
 use Rattle.packet.specs.Packet.{seal, replyBody, marked}
 use Rattle.packet.specs.declared.Reply.the-variants.{Ack}
 use Rattle.hub.specs.Joiner.{Gathered, Joiner}
 use Rattle.hub.specs.Joiner as joiner
-use Rattle.hub.specs.Hub.{packetStep}
+use Rattle.framer.specs.Framer.{atGap, framerStep}
+use Rattle.framer.specs.Behind.{framed}
+use Rattle.hub.specs.Hub.{packetStep, cleared, hubStep}
+use Rattle.hub.proofs.Theorems.{idle}
 use Rattle.sender.specs.Sender.{SenderState}
 use Rattle.sender.specs.Pieces.{packetsOf}
 use Rattle.reader.specs.Reader.{ReaderState}
-use Rattle.bench.specs.Bench.{Try, Tried, Ending, delivered, failed, out, Begun, Message, Sheet, Bench, handing, hubAnswers}
-use Rattle.bench.specs.Delivery.{OnLine, sent, gap, onLine, apart, messageOf, HandsOut, handed, passed-over, Thrice, Bad, Honest, inOrder, Sends}
+use Rattle.bench.specs.Bench.{Try, Tried, Ending, delivered, failed, out, Begun, Message, Sheet, Bench, handing, hubAnswers, gapFirst}
+use Rattle.bench.specs.Delivery.{OnLine, sent, gap, gapOf, onLine, apart, messageOf, HandsOut, handed, passed-over, Thrice, Bad, Honest, inOrder, Sends}
 use Rattle.bench.proofs.Carrying.{free, Copy, first, another, New, Sendable, Carries, Onward, goes-on, came-out, next}
 use Rattle.bench.proofs.Hearing.{busy}
 use Rattle.bench.proofs.Rounds.{benchOf}
@@ -42,13 +47,22 @@ unfolding sameBytes
 none-same [] h = absurd (omega arith)
 none-same (x ∷ xs) h = refl
 
--- Where no two neighbours are equal, a packet that comes on the line is not the last one that the hub accepted.
-pub apart-new : (p : List ℕ) (line : List OnLine) → 1 ≤ length p → apart (sent p ∷ line) ≡ true → New (lastOn line) p
+-- A packet that is not the latest one on the line may follow it.
+pub apart-more : (p : List ℕ) (line : List OnLine) → New (lastOn line) p → apart line ≡ true → apart (sent p ∷ line) ≡ true
 unfolding apart lastOn
-apart-new p [] h e = none-same p h
-apart-new p (gap ∷ xs) h e = none-same p h
-apart-new p (sent q ∷ xs) h e =
-    other-way p q (sameBytes q p) refl (not-true (sameBytes p q) (both-left (not (sameBytes p q)) (apart (sent q ∷ xs)) e))
+apart-more p [] n e = refl
+apart-more p (gap ∷ xs) n e = e
+apart-more p (sent q ∷ xs) n e = rw (other-way q p (sameBytes p q) refl n) e
+
+-- What the hub accepted last, since the last message gap: nothing, or the last packet that the sender knows of.
+pub data Known (last : List ℕ) : List ℕ → Type 0 where
+  no-packet : Known last []
+  its-last : Known last last
+
+-- So a packet that is not the sender's last is new to the hub.
+known-new : {last l : List ℕ} (p : List ℕ) → 1 ≤ length p → Known last l → sameBytes last p ≡ false → New l p
+known-new p h no-packet e = none-same p h
+known-new p h its-last e = e
 
 -- ---- at rest
 
@@ -57,11 +71,33 @@ pub record Past (log : List Begun) (ms : List Message) : Type 0 where
   pub hands-out : HandsOut log ms
   pub honest : Each Honest log
   pub sends : Each Sends log
+  pub apart-line : apart (onLine log) ≡ true
 
--- The hub between messages, by whether the last one failed.
-pub data Rested (log : List Begun) : Bool → Joiner → Type 0 where
-  gap-due : {j : Joiner} → Rested log true j
-  ready : Rested log false (free (lastOn (onLine log)) joiner.none)
+-- The hub between messages, by whether the last one failed, and by the last packet that the sender keeps.
+pub data Rested (log : List Begun) (last : List ℕ) : Bool → Joiner → Type 0 where
+  gap-due : {j : Joiner} → Rested log last true j
+  ready : Known last (lastOn (onLine log)) → Rested log last false (free (lastOn (onLine log)) joiner.none)
+
+-- Behind the gap that a start with this first packet tells, if it tells one, the hub has gathered nothing, accepted last what the line carried last,
+-- and the packet is new to it.
+pub gap-first : {log : List Begun} {last : List ℕ} {f : Bool} {j : Joiner} (p : List ℕ) (g : Bool) → Rested log last f j → either f (sameBytes last p) ≡ g →
+    gapFirst g (idle j) ≡ record { next = idle (free (lastOn (gapOf g ++ onLine log)) joiner.none); told = [] }
+unfolding gapFirst gapOf lastOn hubStep cleared framed framerStep atGap through
+gap-first p true k e = refl
+gap-first p false gap-due e = never (cc)
+gap-first p false (ready n) e = refl
+
+pub gap-new : {log : List Begun} {last : List ℕ} {f : Bool} {j : Joiner} (p : List ℕ) (g : Bool) → 1 ≤ length p → Rested log last f j → either f (sameBytes last p) ≡ g →
+    New (lastOn (gapOf g ++ onLine log)) p
+unfolding gapOf lastOn
+gap-new p true h k e = none-same p h
+gap-new p false h gap-due e = never (cc)
+gap-new p false h (ready n) e = known-new p h n e
+
+pub gap-apart : (g : Bool) (log : List Begun) → apart (onLine log) ≡ true → apart (gapOf g ++ onLine log) ≡ true
+unfolding gapOf apart
+gap-apart true log e = e
+gap-apart false log e = e
 
 -- ---- at work
 
@@ -108,7 +144,7 @@ noted-first {q} f g s = simp (eq-eqb (getD q 3 0 % 2) 0 (s .even))
 -- and those handed out by now.
 pub data Has (code : ℕ) (bytes p : List ℕ) (ps : List (List ℕ)) (xs : List Message) : List Try → Joiner → List Message → Type 0 where
   not-yet : {ts : List Try} {l : List ℕ} {g : Gathered} → New l p → Carries code bytes g (p ∷ ps) → Has code bytes p ps xs ts (free l g) xs
-  already : {t : Try} {ts : List Try} {g : Gathered} {ms : List Message} → Onward code bytes g ps xs ms → Has code bytes p ps xs (t ∷ ts) (free p g) ms
+  already : {t : Try} {ts : List Try} {g : Gathered} {ms : List Message} → Onward code bytes p g ps xs ms → Has code bytes p ps xs (t ∷ ts) (free p g) ms
 
 -- One more try changes nothing of that.
 pub later : {code : ℕ} {bytes p : List ℕ} {ps : List (List ℕ)} {xs ms : List Message} {ts : List Try} {j : Joiner} (t : Try) →
@@ -120,7 +156,7 @@ later t (already k) = already k
 pub not-ended : {code : ℕ} {bytes p : List ℕ} {ps : List (List ℕ)} {ts : List Try} {log : List Begun} {xs ms : List Message} {j : Joiner} (m : Begun) →
     (m .ending ≡ delivered → ⊥) → record { code = code; bytes = bytes } ≡ messageOf m → HandsOut log xs → Has code bytes p ps xs ts j ms → HandsOut (m ∷ log) ms
 not-ended m d e h (not-yet n k) = passed-over d h
-not-ended m d e h (already (goes-on k)) = passed-over d h
+not-ended m d e h (already (goes-on n k)) = passed-over d h
 not-ended m d e h (already came-out) = handed e h
 
 -- What the hub makes of the copy on the line: it acknowledges it, and has the packet then.
@@ -129,7 +165,7 @@ pub record Takes (code : ℕ) (bytes p : List ℕ) (ps : List (List ℕ)) (xs : 
   pub acked : hubAnswers (joiner.acknowledged told) ≡ seal (replyBody host Ack) ∷ []
   pub gathered : Gathered
   pub step : packetStep j (copyOf ts p) ≡ record { next = free p gathered; told = joiner.acknowledged told }
-  pub onward : Onward code bytes gathered ps xs (handing (joiner.acknowledged told) ms)
+  pub onward : Onward code bytes p gathered ps xs (handing (joiner.acknowledged told) ms)
 
 a-copy : (ts : List Try) (p : List ℕ) → Copy p (copyOf ts p)
 a-copy [] p = first
@@ -145,12 +181,16 @@ takes s (already {g = g} k) = record { told = joiner.repeated; acked = refl; gat
 
 -- ---- a bench
 
+-- A message that is out, with its latest packet on the line: no two neighbours on the line are equal.
+abbrev pub ApartWith : ℕ → List ℕ → Bool → List ℕ → List Tried → List Begun → Type 0
+ApartWith code bytes g p older log = apart (onLine (present code bytes g out p 0 [] older ∷ log)) ≡ true
+
 pub data Stands : Joiner → SenderState → Sheet → List Message → Type 0 where
-  at-rest : {j : Joiner} {s : SenderState} {log : List Begun} {ms : List Message} {f : Bool} → s .queue ≡ [] → s .failed ≡ f → Past log ms → Rested log f j →
+  at-rest : {j : Joiner} {s : SenderState} {log : List Begun} {ms : List Message} {f : Bool} → s .queue ≡ [] → s .failed ≡ f → Past log ms → Rested log (s .last) f j →
       Stands j s (record { copy = []; log = log }) ms
   at-work : {code : ℕ} {bytes p : List ℕ} {ps : List (List ℕ)} {ts : List Try} {older : List Tried} {log : List Begun} {g : Bool} {k : ℕ} {j : Joiner}
-      {xs ms : List Message} → Out code bytes p ps ts older log → HandsOut log xs → Has code bytes p ps xs ts j ms →
-      Stands j (busy p ps (length ts) k false) (record { copy = copyOf ts p; log = present code bytes g out p (length ts) ts older ∷ log }) ms
+      {xs ms : List Message} → Out code bytes p ps ts older log → HandsOut log xs → Has code bytes p ps xs ts j ms → ApartWith code bytes g p older log →
+      Stands j (busy p ps (length ts) k) (record { copy = copyOf ts p; log = present code bytes g out p (length ts) ts older ∷ log }) ms
 
 -- A bench stands, with nothing begun on its lines and no stray bytes.
 pub record Standing (r : ReaderState) (b : Bench) : Type 0 where
@@ -163,3 +203,28 @@ pub record Standing (r : ReaderState) (b : Bench) : Type 0 where
 
 pub standing : {r : ReaderState} {j : Joiner} {s : SenderState} {sheet : Sheet} {ms : List Message} → Stands j s sheet ms → Standing r (benchOf r j s sheet ms)
 standing {j = j} {s} {sheet} {ms} k = record { joiner-is = j; sender-is = s; sheet-is = sheet; handed-is = ms; is = refl; stands = k }
+
+-- ---- the course of one message
+
+-- How many tries it can still have: three for each packet behind the present one, and what is left of three for this.
+abbrev pub toCome : List (List ℕ) → List Try → ℕ
+toCome ps ts = length ps * 3 + (3 - length ts)
+
+-- What became of it: it ended, and where it was delivered it is what was handed out last.
+pub record Finished (code : ℕ) (bytes : List ℕ) (xs ms : List Message) (m : Begun) : Type 0 where
+  pub its : messageOf m ≡ record { code = code; bytes = bytes }
+  pub over : m .ending ≡ out → ⊥
+  pub whole : m .ending ≡ delivered → ms ≡ record { code = code; bytes = bytes } ∷ xs
+
+-- Behind this log and these messages: it is out, with so many tries to come at most, or it has ended.
+pub data Course (code : ℕ) (bytes : List ℕ) (log : List Begun) (xs : List Message) (r : ReaderState) (n : ℕ) : Bench → Type 0 where
+  still-out : {p : List ℕ} {ps : List (List ℕ)} {ts : List Try} {older : List Tried} {g : Bool} {k : ℕ} {j : Joiner} {ms : List Message} → toCome ps ts ≤ n →
+      Out code bytes p ps ts older log → Has code bytes p ps xs ts j ms → ApartWith code bytes g p older log →
+      Course code bytes log xs r n (benchOf r j (busy p ps (length ts) k) (record { copy = copyOf ts p; log = present code bytes g out p (length ts) ts older ∷ log }) ms)
+  ended : {j : Joiner} {s : SenderState} {m : Begun} {ms : List Message} {f : Bool} → s .queue ≡ [] → s .failed ≡ f → Past (m ∷ log) ms → Rested (m ∷ log) (s .last) f j →
+      Finished code bytes xs ms m → Course code bytes log xs r n (benchOf r j s (record { copy = []; log = m ∷ log }) ms)
+
+-- So it stands.
+pub course-stands : {code n : ℕ} {bytes : List ℕ} {log : List Begun} {xs : List Message} {r : ReaderState} {b : Bench} → HandsOut log xs → Course code bytes log xs r n b → Standing r b
+course-stands h (still-out l w has a) = standing (at-work w h has a)
+course-stands h (ended q f past k m) = standing (at-rest q f past k)

@@ -5,8 +5,7 @@ use mathlib.Core.Path.{_≡_, refl, sym, ap, _∙_}
 use mathlib.Core.Bool.{false}
 use mathlib.Core.List.{List, [], _∷_, _++_, map, flatMap, append-assoc}
 use native.Mathlib.Omega.{arith}
-use lib.ListN.{length, getD, take, drop, replicate, take-append-drop, length-append, length-drop}
-use lib.Seq.{length-take-le}
+use lib.ListN.{length, getD, take, drop, replicate, take-append-drop, length-append}
 use borrow.Author.Tests.{eq-eqb, ne-eqb}
 use Rattle.words.specs.Lists.{Bytes, Each, none as no-body, one}
 use Rattle.words.specs.Machine.{Done, after, through}
@@ -25,9 +24,9 @@ use Rattle.hub.specs.Joiner.{none, some, Joiner, Output, added, handed, acknowl
 use Rattle.hub.specs.Hub.{HubState, switchedOn, packetStep, heardStep, hubStep}
 use Rattle.hub.proofs.Calm.{Calm, ends, gap, calm-append, calm-bytes, calm-run, heard-packets}
 use Rattle.hub.proofs.Theorems.{piece-decodes, piece-joined}
-use Rattle.sender.specs.Pieces.{bodiesOf, packetsOf}
-use Rattle.sender.proofs.Cutting.{Cut, last, more, pieces-are-cut, cut-some, bodies-more}
-use Rattle.sender.proofs.Theorems.{packets-bodies, packets-number, packets-some}
+use Rattle.sender.specs.Pieces.{nextSize, bodiesOf, packetsOf}
+use Rattle.sender.proofs.Cutting.{Cut, last, more, left-behind, pieces-are-cut, cut-some, bodies-more}
+use Rattle.sender.proofs.Pieces.{packets-bodies, packets-number, packets-some}
 use Rattle.bench.specs.Bench.{hubAnswers}
 use Rattle.bench.specs.Whole.{copyThen, copiesOf, closeCopiesOf, Rests, wholeTold, TakesIn}
 
@@ -103,25 +102,28 @@ unfolding after flatMap
 finishes-after e w k = rw (e, w) (record { told-is = ap (λ (l : List Output). acknowledged added ++ l) (k .told-is); free = k .free; empty = k .empty })
 
 -- The first piece goes behind what is gathered already.
-pub piece-first : (gathered m : List ℕ) → gathered ++ m ≡ (gathered ++ take 250 m) ++ drop 250 m
-piece-first gathered m = sym (append-assoc gathered (take 250 m) (drop 250 m) ∙ rw (take-append-drop 250 m) refl)
+pub piece-first : (n : ℕ) (gathered m : List ℕ) → gathered ++ m ≡ (gathered ++ take n m) ++ drop n m
+piece-first n gathered m = sym (append-assoc gathered (take n m) (drop n m) ∙ rw (take-append-drop n m) refl)
 
 -- The pieces of a message are joined to it, behind what is gathered already.
-pieces-finish : (code : ℕ) {m : List ℕ} {ps : List (List ℕ)} (j : Joiner) → Cut m ps → Takes j code (length m) →
+pieces-finish : (code : ℕ) {b m : List ℕ} {ps : List (List ℕ)} (j : Joiner) → Cut b m ps → Takes j code (length m) →
     Finishes code (bytesOf (j .gathered) ++ m) (length ps - 1) (through packetStep j (bodiesOf code ps))
 unfolding bodiesOf through bytesOf flatMap
-pieces-finish code j (last {m} h) k =
+pieces-finish code j (last {m = m} h) k =
     rw (through-one packetStep j (pieceBody 0 code m), piece-handed j 0 code m (no-repeat j 0 code m refl) k refl) (record { told-is = refl; free = refl; empty = refl })
-pieces-finish code j (more {m} {ps} h c) k =
-    let p = take 250 m in
-    let rest = drop 250 m in
-    let front = length-take-le 250 m (omega arith) in
-    let behind = length-drop 250 m in
+pieces-finish code j (more {b} {m} {ps} h c) k =
+    let n = nextSize b m in
+    let p = take n m in
+    let rest = drop n m in
+    let w = left-behind b m h in
+    let front = w .front in
+    let behind = w .behind in
+    let inside = w .some in
     let some = cut-some c in
     let room : Takes j code (length p + length rest) = takes-less (omega arith) k in
     let e = piece-added j 2 code p (no-repeat j 2 code p refl) (takes-less (omega arith) k) refl in
     rw (bodies-more code p ps some, e)
-    (finishes-after (omega arith) (piece-first (bytesOf (j .gathered)) m) (pieces-finish code (withPiece j 2 code p) c (takes-rest j 2 code p room)))
+    (finishes-after (omega arith) (piece-first n (bytesOf (j .gathered)) m) (pieces-finish code (withPiece j 2 code p) c (takes-rest j 2 code p room)))
 
 -- ---- copies on the line
 

@@ -15,7 +15,6 @@ use Rattle.framer.specs.declared.Event.the-variants.{Byte, CharacterGap, Messag
 use Rattle.hub.specs.Joiner as joiner
 use Rattle.hub.specs.Hub.{HubState, hubStep}
 use Rattle.sender.specs.Sender as sender
-use Rattle.sender.specs.Sender.{gapDue}
 use Rattle.reader.specs.Reader.{ReaderState, Output, refused, repeated, beeped, switched, answered, sent, readerStep, startMessage, timeOut}
 use Rattle.reader.specs.Promises.{sentOf}
 
@@ -159,7 +158,7 @@ answersIn (sent x ∷ os) = answersIn os
 
 -- What the sender gives out goes on the sheet. A copy without the mark is a packet's first, one with it is another of the same packet.
 unfoldable pub noted : Sheet → sender.Sent → Sheet
-noted s (sender.copy body) = record { copy = body; log = latest (pick (eqb (resendBit (getD body 3 0)) 0) (sending body) (resending body)) (s .log) }
+noted s (sender.copy gap body) = record { copy = body; log = latest (pick (eqb (resendBit (getD body 3 0)) 0) (sending body) (resending body)) (s .log) }
 noted s (sender.delivered n) = record { copy = []; log = latest (ending delivered) (s .log) }
 noted s (sender.failed n) = record { copy = []; log = latest (ending failed) (s .log) }
 noted s (sender.refused r) = s
@@ -176,25 +175,23 @@ gapFirst false hub = record { next = hub; told = [] }
 abbrev pub opened : ℕ → List ℕ → Bool → Begun
 opened code m gap = record { code = code; bytes = m; gap = gap; ending = out; packets = [] }
 
-unfoldable pub begins : Bench → ℕ → List ℕ → Bool → Done HubState joiner.Output → ReaderState → List sender.Sent → Bench
-begins b code m gap h r [] = b
-begins b code m gap h r (sender.copy body ∷ xs) =
+unfoldable pub begins : Bench → ℕ → List ℕ → ReaderState → List sender.Sent → Bench
+begins b code m r [] = b
+begins b code m r (sender.copy gap body ∷ xs) =
+    let h = gapFirst gap (b .hub) in
     record {
       hub = h .next;
       reader = r;
-      sheet = noting (record { copy = []; log = opened code m gap ∷ b .sheet .log }) (sender.copy body ∷ xs);
+      sheet = noting (record { copy = []; log = opened code m gap ∷ b .sheet .log }) (sender.copy gap body ∷ xs);
       handed = handing (h .told) (b .handed);
       stray = b .stray ++ flatMap (λ (bytes : List ℕ). bytes) (hubAnswers (h .told));
     }
-begins b code m gap h r (sender.delivered n ∷ xs) = b
-begins b code m gap h r (sender.failed n ∷ xs) = b
-begins b code m gap h r (sender.refused x ∷ xs) = b
-
-abbrev pub due : Bench → Bool
-due b = gapDue (b .reader .core .sender)
+begins b code m r (sender.delivered n ∷ xs) = b
+begins b code m r (sender.failed n ∷ xs) = b
+begins b code m r (sender.refused x ∷ xs) = b
 
 unfoldable pub begin : Bench → ℕ → List ℕ → Bench
-begin b code m = begins b code m (due b) (gapFirst (due b) (b .hub)) (startMessage (b .reader) code m .next) (sentOf (startMessage (b .reader) code m .told))
+begin b code m = begins b code m (startMessage (b .reader) code m .next) (sentOf (startMessage (b .reader) code m .told))
 
 -- A try: the copy goes to the hub and the hub's answer comes to the reader; where the reader's sender heeds nothing, a time-out follows.
 unfoldable pub hubHears : Bench → Try → Done HubState joiner.Output

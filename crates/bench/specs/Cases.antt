@@ -1,8 +1,8 @@
 -- §17, the ten cases, as one statement over the definitions.
-use Prim.Native.Nat.{ℕ}
+use Prim.Native.Nat.{ℕ, _≤_}
 use mathlib.Core.List.{List, [], _∷_, _++_, map}
 use mathlib.Core.Path.{_≡_}
-use lib.ListN.{length, replicate}
+use lib.ListN.{length, getD, replicate}
 use Rattle.words.specs.Machine.{through}
 use Rattle.packet.specs.Opcodes.{host, reader}
 use Rattle.packet.specs.Packet.{seal, replyBody}
@@ -13,7 +13,7 @@ use Rattle.framer.specs.declared.Event.{Event}
 use Rattle.framer.specs.declared.Event.the-variants.{Byte, CharacterGap}
 use Rattle.hub.specs.Joiner as joiner
 use Rattle.hub.specs.Hub as hub
-use Rattle.sender.specs.Pieces.{piecesOf, packetsOf}
+use Rattle.sender.specs.Pieces.{piecesOf, packetsOf, Uncut}
 use Rattle.sender.specs.Sender as sender
 use Rattle.table.specs.Table.{noLocks, defaults}
 use Rattle.commands.specs.Commands.{DeviceState, fresh}
@@ -62,10 +62,16 @@ pub record TenCases : Type 0 where
   pub trigger-asked :
       readerTells (line triggerSet ++ line triggerAsked)
       ≡ switched withTrigger ∷ answered (seal (replyBody reader Ack)) ∷ switched withTrigger ∷ answered triggerTold ∷ []
-  -- 9: 250 bytes are one piece; 251 are two, the last of 1.
+  -- 9: 250 bytes are one piece; 251 are two, the last of 1. No cut can fall there.
   pub brim : (m : List ℕ) → length m ≡ 250 → map length (piecesOf m) ≡ 250 ∷ []
   pub over-brim : (m : List ℕ) → length m ≡ 251 → map length (piecesOf m) ≡ 250 ∷ 1 ∷ []
-  -- 10: 4,096 bytes are 17 pieces, the last of 96; 4,097 are refused by number 11, whatever the sender does.
-  pub longest : (m : List ℕ) → length m ≡ 4096 → map length (piecesOf m) ≡ replicate 16 250 ++ (96 ∷ [])
+  -- 10: 4,096 bytes are 17 pieces, the last of 96 where no cut falls, and of 96 to 104 in any case; 4,097 are refused by number 11, whatever the sender
+  -- does.
+  pub longest : (m : List ℕ) → length m ≡ 4096 → Uncut m → map length (piecesOf m) ≡ replicate 16 250 ++ (96 ∷ [])
+  pub longest-number : (m : List ℕ) → length m ≡ 4096 → length (piecesOf m) ≡ 17
+  pub longest-least : (m : List ℕ) → length m ≡ 4096 → 96 ≤ length (getD (piecesOf m) 16 [])
+  pub longest-most : (m : List ℕ) → length m ≡ 4096 → length (getD (piecesOf m) 16 []) ≤ 104
   pub too-long : (s : sender.SenderState) (code : ℕ) (m : List ℕ) → length m ≡ 4097 → sender.startStep s code m ≡ record { next = s; told = sender.refused Start ∷ [] }
   pub too-long-number : numberOf Start ≡ 11
+  -- And the case that shows a cut: 750 equal bytes.
+  pub cut : map length (piecesOf (replicate 750 0x41)) ≡ 250 ∷ 249 ∷ 250 ∷ 1 ∷ []

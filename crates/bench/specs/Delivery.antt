@@ -38,7 +38,8 @@ unfoldable pub onLine : List Begun → List OnLine
 onLine [] = []
 onLine (m ∷ ms) = map (λ (p : Tried). sent (p .body)) (m .packets) ++ (gapOf (m .gap) ++ onLine ms)
 
--- No packet is equal to the one before it, unless a message gap came between. Bodies stand here without their resend mark.
+-- No packet is equal to the one before it, unless a message gap came between. Bodies stand here without their resend mark. This is a theorem of
+-- every line that the sender keeps (`line-apart`), not a condition.
 unfoldable pub apart : List OnLine → Bool
 apart [] = true
 apart (gap ∷ xs) = apart xs

@@ -1,18 +1,20 @@
 -- Runs of the bench and of the hub that are computed whole.
 use Prim.Native.Nat.{ℕ}
+use mathlib.Core.Bool.{Bool}
 use mathlib.Core.List.{List, [], _∷_, _++_, map, flatMap}
 use lib.ListN.{length, replicate}
 use Rattle.words.specs.Machine.{through}
 use Rattle.packet.specs.Opcodes.{reader, decodeData}
-use Rattle.packet.specs.Packet.{bodyOf, seal}
+use Rattle.packet.specs.Packet.{bodyOf, seal, marked}
 use Rattle.packet.specs.declared.Refusal.the-variants.{Barred}
 use Rattle.framer.specs.declared.Event.{Event}
 use Rattle.framer.specs.declared.Event.the-variants.{MessageGap}
 use Rattle.hub.specs.Joiner as joiner
 use Rattle.hub.specs.Hub as hub
+use Rattle.sender.specs.Pieces.{bodiesOf, packetsOf}
 use Rattle.table.specs.Table.{defaults}
 use Rattle.reader.specs.Reader as whole-end
-use Rattle.bench.specs.Bench.{whole, lost, spoiled, gapAfter, Tried, Ending, Begun, Message, Bench, start, attempt, Move, played, bench}
+use Rattle.bench.specs.Bench.{whole, lost, spoiled, gapAfter, Tried, Ending, Begun, Message, Bench, handing, start, attempt, Move, played, bench}
 
 -- A bench with a hub and a reader just switched on.
 unfoldable pub runs : List Move → Bench
@@ -89,9 +91,46 @@ everyFate =
 
 -- ---- two equal cards
 
--- The same card twice, and the first copy of the second is lost: its marked copy looks like a resend of the first.
+-- The same card twice, and the first copy of the second is lost: its marked copy would look like a resend of the first.
 abbrev pub equalCards : List Move
 equalCards = start 0x1B (0x38 ∷ []) ∷ arrivesWhole ∷ start 0x1B (0x38 ∷ []) ∷ copyLost ∷ arrivesWhole ∷ []
+
+-- The first card's last packet is the second card.
+abbrev pub equalEnd : List Move
+equalEnd = start 0x1B card ∷ arrivesWhole ∷ arrivesWhole ∷ start 0x1B (0x38 ∷ []) ∷ copyLost ∷ arrivesWhole ∷ []
+
+-- Before which messages a message gap came, the latest first.
+unfoldable pub gaps : Bench → List Bool
+gaps b = map (λ (m : Begun). m .gap) (b .sheet .log)
+
+-- ---- two equal pieces
+
+-- 501 equal characters, and the first copy of the second piece is lost.
+abbrev pub equalLetters : List ℕ
+equalLetters = replicate 501 0x41
+
+abbrev pub equalPieces : List Move
+equalPieces = start 0x1B equalLetters ∷ arrivesWhole ∷ copyLost ∷ arrivesWhole ∷ arrivesWhole ∷ []
+
+-- ---- that both rules are needed
+
+-- What a hub hands out behind these events, the latest first.
+unfoldable pub hubHands : List Event → List Message
+hubHands es = handing (through hub.hubStep hub.switchedOn es .told) []
+
+-- These packets, and the first copy of the second one is lost; with what comes before the second.
+unfoldable pub secondLost : List Event → List (List ℕ) → List Event
+secondLost before [] = []
+secondLost before (p ∷ []) = gapAfter (seal p)
+secondLost before (p ∷ q ∷ ps) = gapAfter (seal p) ++ (before ++ (gapAfter (seal (marked q)) ++ flatMap (λ (b : List ℕ). gapAfter (seal b)) ps))
+
+-- Two equal cards.
+abbrev pub cardTwice : List (List ℕ)
+cardTwice = packetsOf 0x1B (0x38 ∷ []) ++ packetsOf 0x1B (0x38 ∷ [])
+
+-- 501 equal characters in pieces of 250.
+abbrev pub plainPieces : List (List ℕ)
+plainPieces = bodiesOf 0x1B (replicate 250 0x41 ∷ replicate 250 0x41 ∷ (0x41 ∷ []) ∷ [])
 
 -- ---- a barred hub
 

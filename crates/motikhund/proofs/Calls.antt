@@ -50,9 +50,9 @@ use Rattle.reader.specs.declared.Started.{Started}
 use Rattle.reader.specs.declared.Loaded.{Loaded}
 use Rattle.reader.proofs.Loading as loading
 use Rattle.motikhund.specs.Lent.{Need, atLeast, Lacking, here, there, Enough, none, more, Asks, IfNamed, KeptUnless, Kept, Made}
-use Rattle.motikhund.specs.Control.{readerControlSize, numberIn, numberBytes, flagIn, framerIn, framerBytes, hubIn, hubBytes, senderIn, senderBytes, readerIn, readerBytes, FramerIn, PutsNumber, PutsFramer, HubIn, PutsHub, SenderIn, PutsSender, ReaderIn, PutsReader, FlagByte, Switches, PermanentChanged}
-use Rattle.motikhund.specs.Numbers.{isEvent, isReply, noHead, EventOf, HeardOf, HeardNumber, ReplyOf, CheckedNumber, CheckedValues, FoundNumber, FoundValues, BuiltNumber, HubNumber, HubValues, OutcomeNumber, OutcomeValue, isRefused, OutcomeRefused, waitsNumber, ReaderNumber, ReaderValues, verdictNumber, isUnread, WrittenNumber, WrittenSize, VerdictNumber, Unread}
-use Rattle.motikhund.specs.Promises.{PacketChecks, PacketBuilds, PacketAnswers, FramerHears, GoesOn, HubHears, Brings, SenderStarts, SenderHears, SenderWaits, SenderHeeds, FreshReader, ReaderStarts, ReaderTimesOut, ReaderHears, ReaderValue, ReaderLocked, ReaderSaves, unreadNumber, ReaderLoads, ReaderSwitches}
+use Rattle.motikhund.specs.Control.{senderControlSize, readerControlSize, numberIn, numberBytes, flagIn, framerIn, framerBytes, hubIn, hubBytes, senderIn, senderBytes, readerIn, readerBytes, FramerIn, PutsNumber, PutsFramer, HubIn, PutsHub, SenderIn, PutsSender, ReaderIn, PutsReader, FlagByte, Switches, PermanentChanged}
+use Rattle.motikhund.specs.Numbers.{isEvent, isReply, noHead, EventOf, HeardOf, HeardNumber, ReplyOf, CheckedNumber, CheckedValues, FoundNumber, FoundValues, BuiltNumber, HubNumber, HubValues, OutcomeNumber, OutcomeValue, StartValues, isRefused, OutcomeRefused, waitsNumber, ReaderNumber, ReaderValues, verdictNumber, isUnread, WrittenNumber, WrittenSize, VerdictNumber, Unread}
+use Rattle.motikhund.specs.Promises.{PacketChecks, PacketBuilds, PacketAnswers, FramerHears, GoesOn, HubHears, Brings, Begins, SenderStarts, SenderHears, SenderWaits, SenderHeeds, FreshReader, ReaderStarts, ReaderTimesOut, ReaderHears, ReaderValue, ReaderLocked, ReaderSaves, unreadNumber, ReaderLoads, ReaderSwitches}
 use Rattle.motikhund.proofs.Reading.{number-back, framer-back, hub-back, sender-back, reader-back}
 
 -- ---- what is lent
@@ -117,7 +117,7 @@ reader-kept {r} {control} k = record { control-is = k .is; reads = rw (k .is) (r
 -- What a start leaves: nothing is put back where it was refused.
 refused-named : {P : Type 0} (o : Outcome) → isRefused o ≡ true → ((x : Refusal) → o ≡ outcome.Refused x → P) → P
 refused-named outcome.Nothing e k = never (cc)
-refused-named (outcome.Copy size) e k = never (cc)
+refused-named (outcome.Copy size gap) e k = never (cc)
 refused-named (outcome.Delivered copies) e k = never (cc)
 refused-named (outcome.Failed copies) e k = never (cc)
 refused-named (outcome.Refused x) e k = k x refl
@@ -132,6 +132,9 @@ put-back e k = record { control-is = k .control-is ∙ simp e; reads = k .reads 
 
 brings : {o : Outcome} {r value : ℕ} → OutcomeValue o value → OutcomeNumber o r → Brings o r value
 brings value told = record { told = told .is; value-is = value .is }
+
+begins : {o : Outcome} {r : ℕ} {values : List ℕ} → StartValues o values → OutcomeNumber o r → Begins o r values
+begins values told = record { told = told .is; values-are = values .is }
 
 -- ---- calls that make a control value
 
@@ -151,8 +154,8 @@ pub hub-made : {h : Hub} {control control′ : List ℕ} → 29 ≤ length contr
     Made 29 hubIn hubBytes joining.SwitchedOn control 0 control′
 hub-made l on put = made l on (hub-kept put)
 
-pub sender-made : {failed : Bool} {s : Sender} {control control′ : List ℕ} → 35 ≤ length control → sending.Idle failed s → PutsSender s control control′ →
-    Made 35 senderIn senderBytes (sending.Idle failed) control 0 control′
+pub sender-made : {failed : Bool} {s : Sender} {control control′ : List ℕ} → senderControlSize ≤ length control → sending.Idle failed s → PutsSender s control control′ →
+    Made senderControlSize senderIn senderBytes (sending.Idle failed) control 0 control′
 sender-made l idle put = made l idle (sender-kept put)
 
 pub reader-made : {t : Table} {r : Reader} {control control′ : List ℕ} → readerControlSize ≤ length control → settings.Defaults t → reading.SwitchedOn t r → PutsReader r control control′ →
@@ -259,32 +262,32 @@ module _ {control line gather answer message : List ℕ} {n : ℕ} (c : 29 ≤ l
 
 -- ---- the sender
 
-pub start-13 : {control buffer room message : List ℕ} {code : ℕ} → Lacking (atLeast 35 control ∷ atLeast 257 room ∷ []) →
-    SenderStarts control buffer room code message 13 control buffer room 0
+pub start-13 : {control buffer room message : List ℕ} {code : ℕ} → Lacking (atLeast senderControlSize control ∷ atLeast 257 room ∷ []) →
+    SenderStarts control buffer room code message 13 control buffer room (0 ∷ 0 ∷ [])
 start-13 k = record { asks = asks-13 k (refl, refl, refl, refl, refl) }
 
-module _ {control buffer room message buffer′ room′ : List ℕ} {code value : ℕ} {s : Sender} {sent : Sending} {refused : Bool} (c : 35 ≤ length control) (l : 257 ≤ length room)
-    (before-is : SenderIn control s) (starts : sending.Starts s buffer room code message sent buffer′ room′) (value-is : OutcomeValue (sent .outcome) value)
+module _ {control buffer room message buffer′ room′ values : List ℕ} {code : ℕ} {s : Sender} {sent : Sending} {refused : Bool} (c : senderControlSize ≤ length control) (l : 257 ≤ length room)
+    (before-is : SenderIn control s) (starts : sending.Starts s buffer room code message sent buffer′ room′) (values-are : StartValues (sent .outcome) values)
     (is-refused : OutcomeRefused (sent .outcome) refused) where
   start-leaves : {control′ : List ℕ} {r : ℕ} → KeptUnless (isRefused (sent .outcome)) senderIn senderBytes (sent .sender) control control′ → OutcomeNumber (sent .outcome) r →
-      SenderStarts control buffer room code message r control′ buffer′ room′ value
+      SenderStarts control buffer room code message r control′ buffer′ room′ values
   start-leaves kept told =
-      record { asks = asks-enough (more c (more l none)) (record { sent = sent; starts = rw (before-is .is) at starts; brings = brings value-is told; kept = kept }) }
+      record { asks = asks-enough (more c (more l none)) (record { sent = sent; starts = rw (before-is .is) at starts; begins = begins values-are told; kept = kept }) }
 
-  pub sender-refuses : {r : ℕ} → refused ≡ true → OutcomeNumber (sent .outcome) r → SenderStarts control buffer room code message r control buffer′ room′ value
+  pub sender-refuses : {r : ℕ} → refused ≡ true → OutcomeNumber (sent .outcome) r → SenderStarts control buffer room code message r control buffer′ room′ values
   sender-refuses e told =
       let f = sym (is-refused .is) ∙ e in
       start-leaves (alone f (before-is .is) (refused-named (sent .outcome) f (λ x q. refusing.start-refuses starts q .control-same))) told
 
   pub sender-starts : {control′ : List ℕ} {r : ℕ} → refused ≡ false → PutsSender (sent .sender) control control′ → OutcomeNumber (sent .outcome) r →
-      SenderStarts control buffer room code message r control′ buffer′ room′ value
+      SenderStarts control buffer room code message r control′ buffer′ room′ values
   sender-starts e put told = start-leaves (put-back (sym (is-refused .is) ∙ e) (sender-kept put)) told
 
-pub hear-13 : {control buffer room : List ℕ} {n : ℕ} → Lacking (atLeast 35 control ∷ atLeast 257 room ∷ []) → SenderHears control buffer room n 13 control room 0
+pub hear-13 : {control buffer room : List ℕ} {n : ℕ} → Lacking (atLeast senderControlSize control ∷ atLeast 257 room ∷ []) → SenderHears control buffer room n 13 control room 0
 hear-13 k = record { asks = asks-13 k (refl, refl, refl, refl) }
 
 pub sender-hears : {control buffer room control′ room′ : List ℕ} {n r value : ℕ} {s : Sender} {h : Heard} {sent : Sending} →
-    35 ≤ length control →
+    senderControlSize ≤ length control →
     257 ≤ length room →
     SenderIn control s →
     HeardOf n h →
@@ -296,10 +299,10 @@ pub sender-hears : {control buffer room control′ room′ : List ℕ} {n r valu
 sender-hears {sent = sent} c l before-is heard hears put value told =
     record { asks = asks-enough (more c (more l none)) (record { sent = sent; hears = rw (before-is .is, heard .is) at hears; brings = brings value told; kept = sender-kept put }) }
 
-pub waits-13 : {control : List ℕ} → Lacking (atLeast 35 control ∷ []) → SenderWaits control 13
+pub waits-13 : {control : List ℕ} → Lacking (atLeast senderControlSize control ∷ []) → SenderWaits control 13
 waits-13 k = record { asks = asks-13 k refl }
 
-pub sender-waits : {control : List ℕ} {s : Sender} {out : Bool} {r : ℕ} → 35 ≤ length control → SenderIn control s → sending.Waits s out → r ≡ waitsNumber out →
+pub sender-waits : {control : List ℕ} {s : Sender} {out : Bool} {r : ℕ} → senderControlSize ≤ length control → SenderIn control s → sending.Waits s out → r ≡ waitsNumber out →
     SenderWaits control r
 sender-waits {out = out} c before-is waits e = record { asks = asks-enough (more c none) (record { out = out; waits = rw (before-is .is) at waits; told = e }) }
 
@@ -310,24 +313,24 @@ sender-heeds {h = h} heeds told = record { heard = h; heeds = heeds; told = told
 -- ---- the reader
 
 pub reader-start-13 : {control message copy bytes : List ℕ} {code : ℕ} → Lacking (atLeast readerControlSize control ∷ atLeast 257 copy ∷ []) →
-    ReaderStarts control message copy code bytes 13 control message copy 0
+    ReaderStarts control message copy code bytes 13 control message copy (0 ∷ 0 ∷ [])
 reader-start-13 k = record { asks = asks-13 k (refl, refl, refl, refl, refl) }
 
-module _ {control message copy bytes message′ copy′ : List ℕ} {code value : ℕ} {before : Reader} {started : Started} {refused : Bool} (c : readerControlSize ≤ length control) (l : 257 ≤ length copy)
-    (before-is : ReaderIn control before) (starts : reading.Starts before message copy code bytes started message′ copy′) (value-is : OutcomeValue (started .outcome) value)
+module _ {control message copy bytes message′ copy′ values : List ℕ} {code : ℕ} {before : Reader} {started : Started} {refused : Bool} (c : readerControlSize ≤ length control) (l : 257 ≤ length copy)
+    (before-is : ReaderIn control before) (starts : reading.Starts before message copy code bytes started message′ copy′) (values-are : StartValues (started .outcome) values)
     (is-refused : OutcomeRefused (started .outcome) refused) where
   reader-start-leaves : {control′ : List ℕ} {r : ℕ} → KeptUnless (isRefused (started .outcome)) readerIn readerBytes (started .reader) control control′ →
-      OutcomeNumber (started .outcome) r → ReaderStarts control message copy code bytes r control′ message′ copy′ value
+      OutcomeNumber (started .outcome) r → ReaderStarts control message copy code bytes r control′ message′ copy′ values
   reader-start-leaves kept told =
-      record { asks = asks-enough (more c (more l none)) (record { started = started; starts = rw (before-is .is) at starts; brings = brings value-is told; kept = kept }) }
+      record { asks = asks-enough (more c (more l none)) (record { started = started; starts = rw (before-is .is) at starts; begins = begins values-are told; kept = kept }) }
 
-  pub reader-refuses : {r : ℕ} → refused ≡ true → OutcomeNumber (started .outcome) r → ReaderStarts control message copy code bytes r control message′ copy′ value
+  pub reader-refuses : {r : ℕ} → refused ≡ true → OutcomeNumber (started .outcome) r → ReaderStarts control message copy code bytes r control message′ copy′ values
   reader-refuses e told =
       let f = sym (is-refused .is) ∙ e in
       reader-start-leaves (alone f (before-is .is) (refused-named (started .outcome) f (λ x q. reader-refusing.start-refuses starts q .control-same))) told
 
   pub reader-starts : {control′ : List ℕ} {r : ℕ} → refused ≡ false → PutsReader (started .reader) control control′ → OutcomeNumber (started .outcome) r →
-      ReaderStarts control message copy code bytes r control′ message′ copy′ value
+      ReaderStarts control message copy code bytes r control′ message′ copy′ values
   reader-starts e put told = reader-start-leaves (put-back (sym (is-refused .is) ∙ e) (reader-kept put)) told
 
 pub time-out-13 : {control message copy : List ℕ} → Lacking (atLeast readerControlSize control ∷ atLeast 257 copy ∷ []) → ReaderTimesOut control message copy 13 control copy 0

@@ -53,10 +53,17 @@ pub hub-in : {s : List ℕ} {h : Halves} {g : Gathering} → HalvesIn s h → Ga
 unfolding hubIn
 hub-in {s} k l = record { is = rw (k .is, l .is, rest-part 18 s) refl }
 
-pub sender-in : {s : List ℕ} {a b c d : ℕ} → NumberIn (from 3 s) a → NumberIn (from 11 s) b → NumberIn (from 19 s) c → NumberIn (from 27 s) d →
-    SenderIn s (record { out = flagIn s 0; code = getD s 1 0; length = a; at = b; resends = c; copies = d; failed = flagIn s 2 })
+pub sender-in : {s : List ℕ} {a b c d e : ℕ} → NumberIn (from 4 s) a → NumberIn (from 12 s) b → NumberIn (from 20 s) c → NumberIn (from 28 s) d → NumberIn (from 36 s) e →
+    SenderIn s
+    (record { out = flagIn s 0; code = getD s 1 0; length = a; at = b; size = c; resends = d; copies = e; failed = flagIn s 2; delivered = flagIn s 3 })
 unfolding senderIn
-sender-in {s} p q r t = record { is = rw (p .is, q .is, r .is, t .is, rest-part 3 s, rest-part 11 s, rest-part 19 s, rest-part 27 s) refl }
+sender-in {s} p q r t u =
+    record {
+      is =
+          rw
+          (p .is, q .is, r .is, t .is, u .is, rest-part 4 s, rest-part 12 s, rest-part 20 s, rest-part 28 s, rest-part 36 s)
+          refl;
+    }
 
 pub values-in : {s : List ℕ} → 9 ≤ length s → ValuesIn s (getD s 0 0 ∷ getD s 1 0 ∷ getD s 2 0 ∷ getD s 3 0 ∷ getD s 4 0 ∷ getD s 5 0 ∷ getD s 6 0 ∷ getD s 7 0 ∷ getD s 8 0 ∷ [])
 values-in {s = []} h = absurd (omega arith)
@@ -128,11 +135,12 @@ hub-back h rest k =
 pub sender-back : (s : Sender) (rest : List ℕ) → SmallSender s → senderIn (senderBytes s ++ rest) ≡ s
 unfolding halfBytes numberBytes senderIn senderBytes
 sender-back s rest k =
-    let d = numberBytes (s .copies) ++ rest in
-    let c = numberBytes (s .resends) ++ d in
+    let e = numberBytes (s .copies) ++ rest in
+    let d = numberBytes (s .resends) ++ e in
+    let c = numberBytes (s .size) ++ d in
     let b = numberBytes (s .at) ++ c in
     rw
-    (flag-back (s .out), flag-back (s .failed), number-back (s .length) b (k .length), number-back (s .at) c (k .at), number-back (s .resends) d (k .resends), number-back (s .copies) rest (k .copies))
+    (flag-back (s .out), flag-back (s .failed), flag-back (s .delivered), number-back (s .length) b (k .length), number-back (s .at) c (k .at), number-back (s .size) d (k .size), number-back (s .resends) e (k .resends), number-back (s .copies) rest (k .copies))
     refl
 
 flags-back : (bs : List Bool) → flagsIn (flagBytes bs) ≡ bs

@@ -45,7 +45,7 @@ use Rattle.reader.proofs.Refusing as reading-refuses
 use Rattle.reader.proofs.Loading as loading
 use Rattle.motikhund.specs.Lent.{Need, atLeast, Enough, none as no-more, more, Asks, IfNamed, KeptUnless, Made}
 use Rattle.motikhund.specs.Control.{readerControlSize, readerIn, permanentChanged}
-use Rattle.motikhund.specs.Numbers.{replyOf, RefusalNumber, checkedNumber, checkedValues, foundNumber, foundValues, builtNumber, hubNumber, hubValues, outcomeNumber, outcomeValue, isRefused, waitsNumber, readerNumber, readerValues, writtenNumber, verdictNumber}
+use Rattle.motikhund.specs.Numbers.{replyOf, RefusalNumber, checkedNumber, checkedValues, foundNumber, foundValues, builtNumber, hubNumber, hubValues, outcomeNumber, startValues, isRefused, waitsNumber, readerNumber, readerValues, writtenNumber, verdictNumber}
 use Rattle.motikhund.specs.Promises.{PacketChecks, PacketBuilds, PacketAnswers, FramerIdle, FramerHears, HubOn, HubHears, SenderIdle, SenderStarts, SenderHears, SenderWaits, ReaderOn, ReaderPowersUp, ReaderStarts, ReaderTimesOut, ReaderHears, ReaderValue, ReaderLocked, ReaderSaves, unreadNumber, ReaderLoads, ReaderSwitches}
 use Rattle.motikhund.specs.Refused.{lent, same, Untouched, Refuses13, StartRefuses, LoadRefuses, EventRefuses, FramerTaken, HubTaken, ReaderTaken}
 use Rattle.motikhund.proofs.Unique.{decided}
@@ -151,7 +151,7 @@ hub-refused (told.Refused y) e = ap told.Refused (same-number e)
 
 outcome-refused : (o : Outcome) {x : Refusal} → RefusalNumber x (outcomeNumber o) → o ≡ outcome.Refused x
 outcome-refused outcome.Nothing e = not-told e (inl (omega arith))
-outcome-refused (outcome.Copy size) e = not-told e (inr (omega arith))
+outcome-refused (outcome.Copy size gap) e = not-told e (inr (omega arith))
 outcome-refused (outcome.Delivered copies) e = not-told e (inr (omega arith))
 outcome-refused (outcome.Failed copies) e = not-told e (inr (omega arith))
 outcome-refused (outcome.Refused y) e = ap outcome.Refused (same-number e)
@@ -183,6 +183,9 @@ by-named {named} {P = P} q n zero taken = by named refl
 
 zeros-1 : {v : ℕ} → v ≡ 0 → Each (λ (n : ℕ). n ≡ 0) (v ∷ [])
 zeros-1 e = one e none
+
+zeros-2 : {values : List ℕ} → values ≡ 0 ∷ 0 ∷ [] → Each (λ (n : ℕ). n ≡ 0) values
+zeros-2 e = rw e (one refl (one refl none))
 
 zeros-3 : {values : List ℕ} → values ≡ 0 ∷ 0 ∷ 0 ∷ [] → Each (λ (n : ℕ). n ≡ 0) values
 zeros-3 e = rw e (one refl (one refl (one refl none)))
@@ -330,38 +333,38 @@ start-number : {r : ℕ} {x : Refusal} (short : Bool) → RefusalNumber x r → 
 start-number true q e = inr (q .is ∙ ap numberOf e)
 start-number false q e = inl (q .is ∙ ap numberOf e)
 
-start-untouched : {control control′ buffer buffer′ room room′ : List ℕ} {value : ℕ} → control′ ≡ control → buffer′ ≡ buffer → room′ ≡ room → value ≡ 0 →
-    Untouched (lent control control′ ∷ lent buffer buffer′ ∷ lent room room′ ∷ []) (value ∷ [])
-start-untouched c b s v = record { buffers-same = one (same c) (one (same b) (one (same s) none)); values-zero = zeros-1 v }
+start-untouched : {control control′ buffer buffer′ room room′ values : List ℕ} → control′ ≡ control → buffer′ ≡ buffer → room′ ≡ room → values ≡ 0 ∷ 0 ∷ [] →
+    Untouched (lent control control′ ∷ lent buffer buffer′ ∷ lent room room′ ∷ []) values
+start-untouched c b s v = record { buffers-same = one (same c) (one (same b) (one (same s) none)); values-zero = zeros-2 v }
 
 -- `mk_sender_start`
-pub sender-start-refuses : {control buffer room message control′ buffer′ room′ : List ℕ} {code r value : ℕ} {x : Refusal} →
-    SenderStarts control buffer room code message r control′ buffer′ room′ value →
+pub sender-start-refuses : {control buffer room message control′ buffer′ room′ values : List ℕ} {code r : ℕ} {x : Refusal} →
+    SenderStarts control buffer room code message r control′ buffer′ room′ values →
     RefusalNumber x r →
-    StartRefuses r (lent control control′ ∷ lent buffer buffer′ ∷ lent room room′ ∷ []) (value ∷ [])
+    StartRefuses r (lent control control′ ∷ lent buffer buffer′ ∷ lent room room′ ∷ []) values
 sender-start-refuses {room = room} k q =
     by-asks (k .asks) (λ a. record { number = inr (a .0); untouched = start-untouched (a .1) (a .2) (a .3) (a .4) })
     (λ e a.
-    let f = outcome-refused (a .sent .outcome) (told-as (a .brings .told) q) in
+    let f = outcome-refused (a .sent .outcome) (told-as (a .begins .told) q) in
     let s = sending.start-refuses (a .starts) f in
     record {
       number = start-number (ltb (length room) 257) q (s .number);
-      untouched = start-untouched (left-alone f (a .kept)) (s .buffer-same) (s .room-same) (a .brings .value-is ∙ ap outcomeValue f);
+      untouched = start-untouched (left-alone f (a .kept)) (s .buffer-same) (s .room-same) (a .begins .values-are ∙ ap startValues f);
     })
 
 -- `mk_reader_start`
-pub reader-start-refuses : {control message copy bytes control′ message′ copy′ : List ℕ} {code r value : ℕ} {x : Refusal} →
-    ReaderStarts control message copy code bytes r control′ message′ copy′ value →
+pub reader-start-refuses : {control message copy bytes control′ message′ copy′ values : List ℕ} {code r : ℕ} {x : Refusal} →
+    ReaderStarts control message copy code bytes r control′ message′ copy′ values →
     RefusalNumber x r →
-    StartRefuses r (lent control control′ ∷ lent message message′ ∷ lent copy copy′ ∷ []) (value ∷ [])
+    StartRefuses r (lent control control′ ∷ lent message message′ ∷ lent copy copy′ ∷ []) values
 reader-start-refuses {copy = copy} k q =
     by-asks (k .asks) (λ a. record { number = inr (a .0); untouched = start-untouched (a .1) (a .2) (a .3) (a .4) })
     (λ e a.
-    let f = outcome-refused (a .started .outcome) (told-as (a .brings .told) q) in
+    let f = outcome-refused (a .started .outcome) (told-as (a .begins .told) q) in
     let s = reading-refuses.start-refuses (a .starts) f in
     record {
       number = start-number (ltb (length copy) 257) q (s .number);
-      untouched = start-untouched (left-alone f (a .kept)) (s .buffer-same) (s .room-same) (a .brings .value-is ∙ ap outcomeValue f);
+      untouched = start-untouched (left-alone f (a .kept)) (s .buffer-same) (s .room-same) (a .begins .values-are ∙ ap startValues f);
     })
 
 -- ---- answers and time-outs

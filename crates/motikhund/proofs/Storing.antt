@@ -16,7 +16,7 @@ use Rattle.sender.specs.declared.Sender.{Sender}
 use Rattle.table.specs.declared.Table.{Table}
 use Rattle.commands.specs.declared.Device.{Device}
 use Rattle.reader.specs.declared.Reader.{Reader}
-use Rattle.motikhund.specs.Control.{halfBytes, numberBytes, Small, flagByte, flagBytes, framerBytes, halvesBytes, gatheringBytes, hubBytes, senderBytes, tableBytes, deviceBytes, readerBytes, SizedTable, PutsHalf, PutsNumber, PutsTwo, FlagByte, PutsFlag, PutsFramer, PutsHalves, PutsGathering, PutsHub, PutsSender, PutsLocks, PutsTable, PutsDevice, PutsReader}
+use Rattle.motikhund.specs.Control.{senderControlSize, readerControlSize, halfBytes, numberBytes, Small, flagByte, flagBytes, framerBytes, halvesBytes, gatheringBytes, hubBytes, senderBytes, tableBytes, deviceBytes, readerBytes, SizedTable, PutsHalf, PutsNumber, PutsTwo, FlagByte, PutsFlag, PutsFramer, PutsHalves, PutsGathering, PutsHub, PutsSender, PutsLocks, PutsTable, PutsDevice, PutsReader}
 
 -- ---- one to four stores
 
@@ -140,27 +140,35 @@ hub-put {h} {room} {room₁} {part} l line gathering =
       small = record { line = line .small; count = gathering .small };
     }
 
-pub sender-put : {s : Sender} {a b : ℕ} {room room₁ room₂ part part₂ : List ℕ} → 35 ≤ length room → FlagByte (s .out) a → FlagByte (s .failed) b →
-    Over (a ∷ s .code ∷ b ∷ []) room room₁ → PutsTwo (s .length) (s .at) (take (length room₁ - 3) (drop 3 room₁)) part → room₂ ≡ back 3 part room₁ →
-    PutsTwo (s .resends) (s .copies) (take (length room₂ - 19) (drop 19 room₂)) part₂ → PutsSender s room (back 19 part₂ room₂)
+pub sender-put : {s : Sender} {a b c : ℕ} {room room₁ room₂ room₃ part part₂ part₃ : List ℕ} → senderControlSize ≤ length room → FlagByte (s .out) a → FlagByte (s .failed) b →
+    FlagByte (s .delivered) c →
+    Over (a ∷ s .code ∷ b ∷ c ∷ []) room room₁ →
+    PutsTwo (s .length) (s .at) (take (length room₁ - 4) (drop 4 room₁)) part →
+    room₂ ≡ back 4 part room₁ →
+    PutsTwo (s .size) (s .resends) (take (length room₂ - 20) (drop 20 room₂)) part₂ →
+    room₃ ≡ back 20 part₂ room₂ →
+    PutsNumber (s .copies) (take (length room₃ - 36) (drop 36 room₃)) part₃ →
+    PutsSender s room (back 36 part₃ room₃)
 unfolding senderBytes
-sender-put {s} {a} {b} {room} {room₁} {room₂} {part} {part₂} l out failed flags places e counts =
-    let f = a ∷ s .code ∷ b ∷ [] in
+sender-put {s} {a} {b} {c} {room} {room₁} {room₂} {room₃} {part} {part₂} {part₃} l out failed delivered flags places e tries g copies =
+    let f = a ∷ s .code ∷ b ∷ c ∷ [] in
     let p = numberBytes (s .length) ++ numberBytes (s .at) in
-    let q = numberBytes (s .resends) ++ numberBytes (s .copies) in
-    let long : length (f ++ p) ≡ 19 = length-append f p ∙ omega (arith, two-long (s .length) (s .at)) in
+    let q = numberBytes (s .size) ++ numberBytes (s .resends) in
+    let n = numberBytes (s .copies) in
+    let fp : length (f ++ p) ≡ 20 = length-append f p ∙ omega (arith, two-long (s .length) (s .at)) in
+    let fpq : length ((f ++ p) ++ q) ≡ 36 = length-append (f ++ p) q ∙ omega (arith, two-long (s .size) (s .resends)) in
+    let second = behind 4 f p room room₁ part refl (omega (arith, two-long (s .length) (s .at))) (flags .is) (places .is) in
+    let third = behind 20 (f ++ p) q room room₂ part₂ fp (omega (arith, two-long (s .size) (s .resends))) (e ∙ second) (tries .is) in
     record {
       is =
-          behind 19 (f ++ p) q room room₂ part₂ long (omega (arith, two-long (s .resends) (s .copies)))
-          (e ∙ behind 3 f p room room₁ part refl (omega (arith, two-long (s .length) (s .at))) (flags .is) (places .is))
-          (counts .is)
-          ∙ rw (out .is, failed .is) refl;
-      small = record { length = places .first; at = places .second; resends = counts .first; copies = counts .second };
+          behind 36 ((f ++ p) ++ q) n room room₃ part₃ fpq (omega (arith, number-long (s .copies))) (g ∙ third) (copies .is)
+          ∙ rw (out .is, failed .is, delivered .is, append-assoc p q n) refl;
+      small = record { length = places .first; at = places .second; size = tries .first; resends = tries .second; copies = copies .small };
     }
 
 -- ---- the reader
 
-sender-long : (s : Sender) → length (senderBytes s) ≡ 35
+sender-long : (s : Sender) → length (senderBytes s) ≡ senderControlSize
 unfolding halfBytes numberBytes senderBytes
 sender-long s = refl
 
@@ -229,7 +237,7 @@ device-put {d} {a} {b} {e} {f} {room} {room₁} {part} l scanning session aim le
       sized = table .sized;
     }
 
-pub reader-put : {r : Reader} {room room₁ room₂ room₃ part part₂ part₃ : List ℕ} → 92 ≤ length room → PutsHalves (r .line) room room₁ →
+pub reader-put : {r : Reader} {room room₁ room₂ room₃ part part₂ part₃ : List ℕ} → readerControlSize ≤ length room → PutsHalves (r .line) room room₁ →
     PutsNumber (r .«last_answer») (take (length room₁ - 18) (drop 18 room₁)) part →
     room₂ ≡ back 18 part room₁ →
     PutsDevice (r .device) (take (length room₂ - 26) (drop 26 room₂)) part₂ →

@@ -20,7 +20,7 @@ use Rattle.sender.specs.declared.Outcome.{Outcome}
 use Rattle.sender.specs.declared.Heard.{Heard}
 use Rattle.sender.specs.declared.Heard.the-variants as heard
 use Rattle.motikhund.specs.Control.{flagByte, FlagByte, Switches}
-use Rattle.motikhund.specs.Numbers.{eventOf, heardOf, heardNumber, replyOf, hubValues, readerRow, readerValues, EventOf, HeardOf, ReplyOf, HubValues, OutcomeValue, RowOf, ReaderRow, ReaderValues}
+use Rattle.motikhund.specs.Numbers.{eventOf, heardOf, heardNumber, replyOf, hubValues, readerRow, readerValues, EventOf, HeardOf, ReplyOf, HubValues, OutcomeValue, OutcomeGap, StartValues, RowOf, ReaderRow, ReaderValues}
 
 -- ---- an event
 
@@ -79,6 +79,11 @@ hub-bare e k = record { is = rw e (sym k) }
 
 pub hub-message : {t : Told} {answer code count kind : ℕ} → t ≡ told.Message code count → Wide code kind → HubValues t answer (answer ∷ kind ∷ count ∷ [])
 hub-message {answer = answer} {count = count} e k = record { is = rw (e, k .is) refl }
+
+-- ---- what a start told
+
+pub start-values : {o : Outcome} {gap : Bool} {value flag due : ℕ} → OutcomeValue o value → OutcomeGap o gap → FlagByte gap flag → Wide flag due → StartValues o (value ∷ due ∷ [])
+start-values v g f w = record { is = rw (v .is, w .is, f .is, g .is) refl }
 
 -- ---- what the reader told
 

@@ -28,8 +28,8 @@ use Rattle.reader.specs.declared.Started.{Started}
 use Rattle.reader.specs.declared.Loaded.{Loaded}
 use Rattle.motikhund.specs.Lent.{Need, atLeast, Lacking, here, there, Enough, none, more, Asks, IfNamed, KeptUnless, Kept, Made}
 use Rattle.motikhund.specs.Control.{flagByte, readerIn, permanentChanged}
-use Rattle.motikhund.specs.Numbers.{checkedNumber, checkedValues, heardNumber, foundNumber, foundValues, builtNumber, hubNumber, hubValues, outcomeNumber, outcomeValue, isRefused, waitsNumber, readerNumber, readerValues, writtenNumber, writtenSize, verdictNumber, isUnread}
-use Rattle.motikhund.specs.Promises.{PacketChecks, PacketBuilds, PacketAnswers, FramerIdle, FramerHears, wentOn, FrontAfter, GoesOn, HubOn, HubHears, SenderIdle, Brings, SenderStarts, SenderHears, SenderWaits, SenderHeeds, FreshReader, ReaderOn, ReaderPowersUp, ReaderStarts, ReaderTimesOut, ReaderHears, ReaderValue, ReaderLocked, ReaderSaves, ReaderLoads, ReaderSwitches}
+use Rattle.motikhund.specs.Numbers.{checkedNumber, checkedValues, heardNumber, foundNumber, foundValues, builtNumber, hubNumber, hubValues, outcomeNumber, outcomeValue, startValues, isRefused, waitsNumber, readerNumber, readerValues, writtenNumber, writtenSize, verdictNumber, isUnread}
+use Rattle.motikhund.specs.Promises.{PacketChecks, PacketBuilds, PacketAnswers, FramerIdle, FramerHears, wentOn, FrontAfter, GoesOn, HubOn, HubHears, SenderIdle, Brings, Begins, SenderStarts, SenderHears, SenderWaits, SenderHeeds, FreshReader, ReaderOn, ReaderPowersUp, ReaderStarts, ReaderTimesOut, ReaderHears, ReaderValue, ReaderLocked, ReaderSaves, ReaderLoads, ReaderSwitches}
 
 -- ---- what is lent
 
@@ -200,16 +200,19 @@ hub-hear-unique p q =
 brings-unique : {o o′ : Outcome} {r r′ value₁ value₂ : ℕ} → o ≡ o′ → Brings o r value₁ → Brings o′ r′ value₂ → (r ≡ r′) × (value₁ ≡ value₂)
 brings-unique e a b = (numbered outcomeNumber e (a .told) (b .told), numbered outcomeValue e (a .value-is) (b .value-is))
 
-pub sender-start-unique : {control buffer room message control₁ buffer₁ room₁ control₂ buffer₂ room₂ : List ℕ} {code r r′ value₁ value₂ : ℕ} →
-    SenderStarts control buffer room code message r control₁ buffer₁ room₁ value₁ →
-    SenderStarts control buffer room code message r′ control₂ buffer₂ room₂ value₂ →
-    (r ≡ r′) × (control₁ ≡ control₂) × (buffer₁ ≡ buffer₂) × (room₁ ≡ room₂) × (value₁ ≡ value₂)
+begins-unique : {o o′ : Outcome} {r r′ : ℕ} {values₁ values₂ : List ℕ} → o ≡ o′ → Begins o r values₁ → Begins o′ r′ values₂ → (r ≡ r′) × (values₁ ≡ values₂)
+begins-unique e a b = (numbered outcomeNumber e (a .told) (b .told), numbered startValues e (a .values-are) (b .values-are))
+
+pub sender-start-unique : {control buffer room message control₁ buffer₁ room₁ values₁ control₂ buffer₂ room₂ values₂ : List ℕ} {code r r′ : ℕ} →
+    SenderStarts control buffer room code message r control₁ buffer₁ room₁ values₁ →
+    SenderStarts control buffer room code message r′ control₂ buffer₂ room₂ values₂ →
+    (r ≡ r′) × (control₁ ≡ control₂) × (buffer₁ ≡ buffer₂) × (room₁ ≡ room₂) × (values₁ ≡ values₂)
 sender-start-unique p q =
     asks-unique (p .asks) (q .asks)
     (λ a b. (same (a .0) (b .0), same (a .1) (b .1), same (a .2) (b .2), same (a .3) (b .3), same (a .4) (b .4)))
     (λ a b.
     let u = sending.start-unique (a .starts) (b .starts) in
-    let t = brings-unique (ap (λ (x : Sending). x .outcome) (u .0)) (a .brings) (b .brings) in
+    let t = begins-unique (ap (λ (x : Sending). x .outcome) (u .0)) (a .begins) (b .begins) in
     (t .0, same-start (λ (x : Sending). isRefused (x .outcome)) (λ (x : Sending). x .sender) (u .0) (a .kept) (b .kept), u .1, u .2, t .1))
 
 pub sender-hear-unique : {control buffer room control₁ room₁ control₂ room₂ : List ℕ} {n r r′ value₁ value₂ : ℕ} → SenderHears control buffer room n r control₁ room₁ value₁ →
@@ -232,16 +235,16 @@ sender-heed-unique p q = numbered heardNumber (sending.heed-unique (p .heeds) (q
 
 -- ---- the reader
 
-pub reader-start-unique : {control message copy bytes control₁ message₁ copy₁ control₂ message₂ copy₂ : List ℕ} {code r r′ value₁ value₂ : ℕ} →
-    ReaderStarts control message copy code bytes r control₁ message₁ copy₁ value₁ →
-    ReaderStarts control message copy code bytes r′ control₂ message₂ copy₂ value₂ →
-    (r ≡ r′) × (control₁ ≡ control₂) × (message₁ ≡ message₂) × (copy₁ ≡ copy₂) × (value₁ ≡ value₂)
+pub reader-start-unique : {control message copy bytes control₁ message₁ copy₁ values₁ control₂ message₂ copy₂ values₂ : List ℕ} {code r r′ : ℕ} →
+    ReaderStarts control message copy code bytes r control₁ message₁ copy₁ values₁ →
+    ReaderStarts control message copy code bytes r′ control₂ message₂ copy₂ values₂ →
+    (r ≡ r′) × (control₁ ≡ control₂) × (message₁ ≡ message₂) × (copy₁ ≡ copy₂) × (values₁ ≡ values₂)
 reader-start-unique p q =
     asks-unique (p .asks) (q .asks)
     (λ a b. (same (a .0) (b .0), same (a .1) (b .1), same (a .2) (b .2), same (a .3) (b .3), same (a .4) (b .4)))
     (λ a b.
     let u = reading.start-unique (a .starts) (b .starts) in
-    let t = brings-unique (ap (λ (x : Started). x .outcome) (u .0)) (a .brings) (b .brings) in
+    let t = begins-unique (ap (λ (x : Started). x .outcome) (u .0)) (a .begins) (b .begins) in
     (t .0, same-start (λ (x : Started). isRefused (x .outcome)) (λ (x : Started). x .reader) (u .0) (a .kept) (b .kept), u .1, u .2, t .1))
 
 pub reader-time-out-unique : {control message copy control₁ copy₁ control₂ copy₂ : List ℕ} {r r′ value₁ value₂ : ℕ} → ReaderTimesOut control message copy r control₁ copy₁ value₁ →

@@ -42,7 +42,7 @@ abbrev pub hubControlSize : ℕ
 hubControlSize = halvesSize + gatheringSize
 
 abbrev pub senderControlSize : ℕ
-senderControlSize = 3 + 4 * numberSize
+senderControlSize = 4 + 5 * numberSize
 
 abbrev pub tableSize : ℕ
 tableSize = 3 * parameterCount
@@ -106,18 +106,20 @@ hubIn s = record { line = halvesIn s; gathering = gatheringIn (drop 18 s) }
 unfoldable pub hubBytes : Hub → List ℕ
 hubBytes h = halvesBytes (h .line) ++ gatheringBytes (h .gathering)
 
--- ---- the sender: 0 out, 1 code, 2 failed, 3 to 10 length, 11 to 18 at, 19 to 26 resends, 27 to 34 copies
+-- ---- the sender: 0 out, 1 code, 2 failed, 3 delivered, 4 to 11 length, 12 to 19 at, 20 to 27 size, 28 to 35 resends, 36 to 43 copies
 
 unfoldable pub senderIn : List ℕ → Sender
 senderIn s =
     record {
       out = flagIn s 0;
       code = getD s 1 0;
-      length = numberIn (drop 3 s);
-      at = numberIn (drop 11 s);
-      resends = numberIn (drop 19 s);
-      copies = numberIn (drop 27 s);
+      length = numberIn (drop 4 s);
+      at = numberIn (drop 12 s);
+      size = numberIn (drop 20 s);
+      resends = numberIn (drop 28 s);
+      copies = numberIn (drop 36 s);
       failed = flagIn s 2;
+      delivered = flagIn s 3;
     }
 
 unfoldable pub senderBytes : Sender → List ℕ
@@ -125,10 +127,11 @@ senderBytes s =
     flagByte (s .out)
     ∷ s .code
     ∷ flagByte (s .failed)
-    ∷ ((numberBytes (s .length) ++ numberBytes (s .at)) ++ (numberBytes (s .resends) ++ numberBytes (s .copies)))
+    ∷ flagByte (s .delivered)
+    ∷ ((numberBytes (s .length) ++ numberBytes (s .at)) ++ ((numberBytes (s .size) ++ numberBytes (s .resends)) ++ numberBytes (s .copies)))
 
 -- ---- the reader: 0 to 17 its line, 18 to 25 how long the last answer was, 26 to 34 present values, 35 to 43 permanent values, 44 to 52 which are locked,
--- 53 scanning, 54 session, 55 aim, 56 LED, 57 to 91 its sender
+-- 53 scanning, 54 session, 55 aim, 56 LED, 57 to 100 its sender
 
 abbrev pub flagsIn : List ℕ → List Bool
 flagsIn s = map (λ b. eqb b 1) s
@@ -176,6 +179,7 @@ pub record SmallHub (h : Hub) : Type 0 where
 pub record SmallSender (s : Sender) : Type 0 where
   pub length : Small (s .length)
   pub at : Small (s .at)
+  pub size : Small (s .size)
   pub resends : Small (s .resends)
   pub copies : Small (s .copies)
 

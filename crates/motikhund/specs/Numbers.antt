@@ -110,22 +110,34 @@ hubValues (told.Refused r) answer = answer ∷ 0 ∷ 0 ∷ []
 -- The sender: how many bytes of a copy stand in the room, or the marked copies of the message that has ended.
 abbrev pub outcomeNumber : Outcome → ℕ
 outcomeNumber outcome.Nothing = 0
-outcomeNumber (outcome.Copy size) = 120
+outcomeNumber (outcome.Copy size gap) = 120
 outcomeNumber (outcome.Delivered copies) = 121
 outcomeNumber (outcome.Failed copies) = 122
 outcomeNumber (outcome.Refused r) = numberOf r
 
 abbrev pub outcomeValue : Outcome → ℕ
 outcomeValue outcome.Nothing = 0
-outcomeValue (outcome.Copy size) = size
+outcomeValue (outcome.Copy size gap) = size
 outcomeValue (outcome.Delivered copies) = copies
 outcomeValue (outcome.Failed copies) = copies
 outcomeValue (outcome.Refused r) = 0
 
+-- Whether a message gap is due before it.
+abbrev pub outcomeGap : Outcome → Bool
+outcomeGap outcome.Nothing = false
+outcomeGap (outcome.Copy size gap) = gap
+outcomeGap (outcome.Delivered copies) = false
+outcomeGap (outcome.Failed copies) = false
+outcomeGap (outcome.Refused r) = false
+
+-- Only a start tells of a gap.
+abbrev pub startValues : Outcome → List ℕ
+startValues sent = outcomeValue sent ∷ flagByte (outcomeGap sent) ∷ []
+
 -- Whether it is a refusal.
 abbrev pub isRefused : Outcome → Bool
 isRefused outcome.Nothing = false
-isRefused (outcome.Copy size) = false
+isRefused (outcome.Copy size gap) = false
 isRefused (outcome.Delivered copies) = false
 isRefused (outcome.Failed copies) = false
 isRefused (outcome.Refused r) = true
@@ -220,6 +232,12 @@ pub record OutcomeNumber (o : Outcome) (r : ℕ) : Type 0 where
 
 pub record OutcomeValue (o : Outcome) (r : ℕ) : Type 0 where
   pub is : r ≡ outcomeValue o
+
+pub record OutcomeGap (o : Outcome) (r : Bool) : Type 0 where
+  pub is : r ≡ outcomeGap o
+
+pub record StartValues (o : Outcome) (values : List ℕ) : Type 0 where
+  pub is : values ≡ startValues o
 
 pub record OutcomeRefused (o : Outcome) (r : Bool) : Type 0 where
   pub is : r ≡ isRefused o

@@ -39,7 +39,7 @@ use Rattle.reader.specs.declared.Started.{Started}
 use Rattle.reader.specs.declared.Loaded.{Loaded}
 use Rattle.motikhund.specs.Lent.{atLeast, Asks, IfNamed, KeptUnless, Kept, Made}
 use Rattle.motikhund.specs.Control.{framerControlSize, hubControlSize, senderControlSize, readerControlSize, numberIn, numberBytes, flagIn, flagByte, framerIn, framerBytes, hubIn, hubBytes, senderIn, senderBytes, readerIn, readerBytes, switchValues, permanentChanged}
-use Rattle.motikhund.specs.Numbers.{isEvent, eventOf, heardOf, heardNumber, isReply, replyOf, noHead, checkedNumber, checkedValues, foundNumber, foundValues, builtNumber, hubNumber, hubValues, outcomeNumber, outcomeValue, isRefused, waitsNumber, readerNumber, readerValues, writtenNumber, writtenSize, verdictNumber, isUnread}
+use Rattle.motikhund.specs.Numbers.{isEvent, eventOf, heardOf, heardNumber, isReply, replyOf, noHead, checkedNumber, checkedValues, foundNumber, foundValues, builtNumber, hubNumber, hubValues, outcomeNumber, outcomeValue, startValues, isRefused, waitsNumber, readerNumber, readerValues, writtenNumber, writtenSize, verdictNumber, isUnread}
 
 -- ---- the packet: each call asks for its own room
 
@@ -138,22 +138,26 @@ pub record HubHears (control line gather answer message : List ℕ) (event r : �
 abbrev pub SenderIdle : List ℕ → Bool → ℕ → List ℕ → Type 0
 SenderIdle control failed r control′ = Made senderControlSize senderIn senderBytes (sending.Idle failed) control r control′
 
--- What the sender brought, in numbers.
+-- What the sender brought, in numbers; and what a start did.
 pub record Brings (o : Outcome) (r value : ℕ) : Type 0 where
   pub told : r ≡ outcomeNumber o
   pub value-is : value ≡ outcomeValue o
 
-pub record SenderBegins (control buffer room : List ℕ) (code : ℕ) (message : List ℕ) (r : ℕ) (control′ buffer′ room′ : List ℕ) (value : ℕ) : Type 0 where
+pub record Begins (o : Outcome) (r : ℕ) (values : List ℕ) : Type 0 where
+  pub told : r ≡ outcomeNumber o
+  pub values-are : values ≡ startValues o
+
+pub record SenderBegins (control buffer room : List ℕ) (code : ℕ) (message : List ℕ) (r : ℕ) (control′ buffer′ room′ values : List ℕ) : Type 0 where
   pub sent : Sending
   pub starts : sending.Starts (senderIn control) buffer room code message sent buffer′ room′
-  pub brings : Brings (sent .outcome) r value
+  pub begins : Begins (sent .outcome) r values
   pub kept : KeptUnless (isRefused (sent .outcome)) senderIn senderBytes (sent .sender) control control′
 
-pub record SenderStarts (control buffer room : List ℕ) (code : ℕ) (message : List ℕ) (r : ℕ) (control′ buffer′ room′ : List ℕ) (value : ℕ) : Type 0 where
+pub record SenderStarts (control buffer room : List ℕ) (code : ℕ) (message : List ℕ) (r : ℕ) (control′ buffer′ room′ values : List ℕ) : Type 0 where
   pub asks :
       Asks (atLeast senderControlSize control ∷ atLeast packetSize room ∷ [])
-      ((r ≡ 13) × (control′ ≡ control) × (buffer′ ≡ buffer) × (room′ ≡ room) × (value ≡ 0))
-      (SenderBegins control buffer room code message r control′ buffer′ room′ value)
+      ((r ≡ 13) × (control′ ≡ control) × (buffer′ ≡ buffer) × (room′ ≡ room) × (values ≡ 0 ∷ 0 ∷ []))
+      (SenderBegins control buffer room code message r control′ buffer′ room′ values)
 
 pub record SenderTakes (control buffer room : List ℕ) (heard r : ℕ) (control′ room′ : List ℕ) (value : ℕ) : Type 0 where
   pub sent : Sending
@@ -194,17 +198,17 @@ ReaderOn control r control′ = Made readerControlSize readerIn readerBytes Fres
 abbrev pub ReaderPowersUp : List ℕ → ℕ → List ℕ → Type 0
 ReaderPowersUp control r control′ = Made readerControlSize readerIn readerBytes (reading.PowersUp (readerIn control)) control r control′
 
-pub record ReaderBegins (control message copy : List ℕ) (code : ℕ) (bytes : List ℕ) (r : ℕ) (control′ message′ copy′ : List ℕ) (value : ℕ) : Type 0 where
+pub record ReaderBegins (control message copy : List ℕ) (code : ℕ) (bytes : List ℕ) (r : ℕ) (control′ message′ copy′ values : List ℕ) : Type 0 where
   pub started : Started
   pub starts : reading.Starts (readerIn control) message copy code bytes started message′ copy′
-  pub brings : Brings (started .outcome) r value
+  pub begins : Begins (started .outcome) r values
   pub kept : KeptUnless (isRefused (started .outcome)) readerIn readerBytes (started .reader) control control′
 
-pub record ReaderStarts (control message copy : List ℕ) (code : ℕ) (bytes : List ℕ) (r : ℕ) (control′ message′ copy′ : List ℕ) (value : ℕ) : Type 0 where
+pub record ReaderStarts (control message copy : List ℕ) (code : ℕ) (bytes : List ℕ) (r : ℕ) (control′ message′ copy′ values : List ℕ) : Type 0 where
   pub asks :
       Asks (atLeast readerControlSize control ∷ atLeast packetSize copy ∷ [])
-      ((r ≡ 13) × (control′ ≡ control) × (message′ ≡ message) × (copy′ ≡ copy) × (value ≡ 0))
-      (ReaderBegins control message copy code bytes r control′ message′ copy′ value)
+      ((r ≡ 13) × (control′ ≡ control) × (message′ ≡ message) × (copy′ ≡ copy) × (values ≡ 0 ∷ 0 ∷ []))
+      (ReaderBegins control message copy code bytes r control′ message′ copy′ values)
 
 pub record ReaderWaited (control message copy : List ℕ) (r : ℕ) (control′ copy′ : List ℕ) (value : ℕ) : Type 0 where
   pub started : Started

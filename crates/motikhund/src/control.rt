@@ -30,7 +30,7 @@ const GATHERING_SIZE: usize = 3 + NUMBER_SIZE;
 
 pub const HUB_CONTROL_SIZE: usize = HALVES_SIZE + GATHERING_SIZE;
 
-pub const SENDER_CONTROL_SIZE: usize = 3 + 4 * NUMBER_SIZE;
+pub const SENDER_CONTROL_SIZE: usize = 4 + 5 * NUMBER_SIZE;
 
 const TABLE_SIZE: usize = 3 * PARAMETER_COUNT;
 
@@ -218,11 +218,13 @@ pub(crate) fn sender(s: &[u8]) -> Sender
     Sender {
         out: s[0] == 1,
         code: s[1],
-        length: number(&s[3..]),
-        at: number(&s[11..]),
-        resends: number(&s[19..]),
-        copies: number(&s[27..]),
+        length: number(&s[4..]),
+        at: number(&s[12..]),
+        size: number(&s[20..]),
+        resends: number(&s[28..]),
+        copies: number(&s[36..]),
         failed: s[2] == 1,
+        delivered: s[3] == 1,
     }
 }
 
@@ -230,9 +232,13 @@ pub(crate) fn put_sender(sender: Sender, room: &mut [u8])
     requires { ⌜ senderControlSize ≤ length (now room) ⌝ }
     ensures { λ _. ⌜ PutsSender sender (now (room .entry)) (now (room .exit)) ⌝ }
 {
-    put_three(flag(sender.out), sender.code, flag(sender.failed), room);
-    put_two(sender.length, sender.at, &mut room[3..]);
-    put_two(sender.resends, sender.copies, &mut room[19..]);
+    let out = flag(sender.out);
+    let failed = flag(sender.failed);
+    let delivered = flag(sender.delivered);
+    put_four(out, sender.code, failed, delivered, room);
+    put_two(sender.length, sender.at, &mut room[4..]);
+    put_two(sender.size, sender.resends, &mut room[20..]);
+    put_number(sender.copies, &mut room[36..]);
 }
 
 // ---- the reader

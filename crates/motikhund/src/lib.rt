@@ -210,7 +210,8 @@ pub extern "C" fn mk_sender_idle(control: &mut [u8], failed: bool) -> u32
     0
 }
 
-// Starts a message: 120 and the size of the copy that stands in the room, or a refusal, which leaves the control bytes alone.
+// Starts a message: 120, the size of the copy that stands in the room, and 1 where a message gap is due before it, else 0; or a
+// refusal, which leaves the control bytes alone.
 #[no_mangle]
 pub extern "C" fn mk_sender_start(
     control: &mut [u8],
@@ -218,22 +219,22 @@ pub extern "C" fn mk_sender_start(
     room: &mut [u8],
     code: u8,
     message: &[u8],
-    value: &mut usize,
+    values: &mut [usize; 2],
 ) -> u32
-    ensures { λ r. ⌜ SenderStarts (now (control .entry)) (now (buffer .entry)) (now (room .entry)) code (now (message .entry)) r (now (control .exit)) (now (buffer .exit)) (now (room .exit)) (now (value .exit)) ⌝ }
+    ensures { λ r. ⌜ SenderStarts (now (control .entry)) (now (buffer .entry)) (now (room .entry)) code (now (message .entry)) r (now (control .exit)) (now (buffer .exit)) (now (room .exit)) (now (values .exit)) ⌝ }
 {
     if control.len() < SENDER_CONTROL_SIZE {
-        *value = 0;
+        *values = [0; 2];
         return ROOM;
     }
     if room.len() < packet::PACKET_SIZE {
-        *value = 0;
+        *values = [0; 2];
         return ROOM;
     }
     let sending = sender::start(control::sender(control), buffer, room, code, message);
     let next = sending.sender;
     let outcome = sending.outcome;
-    *value = numbers::outcome_value(outcome);
+    numbers::start_values(outcome, values);
     if numbers::refused(outcome) {
         return numbers::outcome(outcome);
     }
@@ -323,8 +324,8 @@ pub extern "C" fn mk_reader_power_up(control: &mut [u8]) -> u32
     0
 }
 
-// Starts a message: 120 and the size of the copy that stands in the copy room, or a refusal, which leaves the control bytes
-// alone.
+// Starts a message: 120, the size of the copy that stands in the copy room, and 1 where a message gap is due before it, else 0; or
+// a refusal, which leaves the control bytes alone.
 #[no_mangle]
 pub extern "C" fn mk_reader_start(
     control: &mut [u8],
@@ -332,22 +333,22 @@ pub extern "C" fn mk_reader_start(
     copy: &mut [u8],
     code: u8,
     bytes: &[u8],
-    value: &mut usize,
+    values: &mut [usize; 2],
 ) -> u32
-    ensures { λ r. ⌜ ReaderStarts (now (control .entry)) (now (message .entry)) (now (copy .entry)) code (now (bytes .entry)) r (now (control .exit)) (now (message .exit)) (now (copy .exit)) (now (value .exit)) ⌝ }
+    ensures { λ r. ⌜ ReaderStarts (now (control .entry)) (now (message .entry)) (now (copy .entry)) code (now (bytes .entry)) r (now (control .exit)) (now (message .exit)) (now (copy .exit)) (now (values .exit)) ⌝ }
 {
     if control.len() < READER_CONTROL_SIZE {
-        *value = 0;
+        *values = [0; 2];
         return ROOM;
     }
     if copy.len() < packet::PACKET_SIZE {
-        *value = 0;
+        *values = [0; 2];
         return ROOM;
     }
     let started = reader::start(control::reader(control), message, copy, code, bytes);
     let next = started.reader;
     let outcome = started.outcome;
-    *value = numbers::outcome_value(outcome);
+    numbers::start_values(outcome, values);
     if numbers::refused(outcome) {
         return numbers::outcome(outcome);
     }

@@ -12,7 +12,7 @@ use sender::Heard;
 use sender::Outcome;
 use table::Verdict;
 use table::Written;
-ghost use Rattle.motikhund.specs.Numbers.{EventOf, HeardOf, HeardNumber, ReplyOf, RefusalNumber, HeadValues, CheckedNumber, CheckedValues, FoundNumber, FoundValues, BuiltNumber, HubNumber, HubValues, OutcomeNumber, OutcomeValue, OutcomeRefused, ReaderNumber, RowOf, ReaderRow, ReaderValues, WrittenNumber, WrittenSize, VerdictNumber, Unread};
+ghost use Rattle.motikhund.specs.Numbers.{EventOf, HeardOf, HeardNumber, ReplyOf, RefusalNumber, HeadValues, CheckedNumber, CheckedValues, FoundNumber, FoundValues, BuiltNumber, HubNumber, HubValues, OutcomeNumber, OutcomeValue, OutcomeGap, StartValues, OutcomeRefused, ReaderNumber, RowOf, ReaderRow, ReaderValues, WrittenNumber, WrittenSize, VerdictNumber, Unread};
 
 // ---- what goes in
 
@@ -149,7 +149,7 @@ pub(crate) fn outcome(outcome: Outcome) -> u32
 {
     match outcome {
         Outcome::Nothing => 0,
-        Outcome::Copy(_) => 120,
+        Outcome::Copy { size: _, gap: _ } => 120,
         Outcome::Delivered(_) => 121,
         Outcome::Failed(_) => 122,
         Outcome::Refused(why) => refusal(why),
@@ -161,11 +161,31 @@ pub(crate) fn outcome_value(outcome: Outcome) -> usize
 {
     match outcome {
         Outcome::Nothing => 0,
-        Outcome::Copy(size) => size,
+        Outcome::Copy { size, gap: _ } => size,
         Outcome::Delivered(copies) => copies,
         Outcome::Failed(copies) => copies,
         Outcome::Refused(_) => 0,
     }
+}
+
+fn outcome_gap(outcome: Outcome) -> bool
+    ensures { λ r. ⌜ OutcomeGap outcome r ⌝ }
+{
+    match outcome {
+        Outcome::Nothing => false,
+        Outcome::Copy { size: _, gap } => gap,
+        Outcome::Delivered(_) => false,
+        Outcome::Failed(_) => false,
+        Outcome::Refused(_) => false,
+    }
+}
+
+pub(crate) fn start_values(outcome: Outcome, values: &mut [usize; 2])
+    ensures { λ _. ⌜ StartValues outcome (now (values .exit)) ⌝ }
+{
+    let value = outcome_value(outcome);
+    let gap = words::wide(control::flag(outcome_gap(outcome)));
+    *values = [value, gap];
 }
 
 pub(crate) fn refused(outcome: Outcome) -> bool
@@ -173,7 +193,7 @@ pub(crate) fn refused(outcome: Outcome) -> bool
 {
     match outcome {
         Outcome::Nothing => false,
-        Outcome::Copy(_) => false,
+        Outcome::Copy { size: _, gap: _ } => false,
         Outcome::Delivered(_) => false,
         Outcome::Failed(_) => false,
         Outcome::Refused(_) => true,

@@ -304,7 +304,7 @@ sender-hears {c} {c′} {body} {carried} {message} {copy} {copy′} {h} {g} l p 
     let y = le-ltb (length copy) packetSize l in
     let d = senderStep (sending.stateOf (c .sender) message) h in
     let xs = d .told in
-    let is : g ≡ record { sender = sending.controlAfter (sending.soundOf (c .sender)) h d; outcome = sending.nameOf xs } = k .is ∙ simp y in
+    let is : g ≡ record { sender = sending.controlAfter (sending.soundOf (c .sender)) message h xs; outcome = sending.nameOf xs } = k .is ∙ simp y in
     record {
       steps = λ last answers answer f.
           rw (← e)
@@ -317,4 +317,5 @@ sender-hears {c} {c′} {body} {carried} {message} {copy} {copy′} {h} {g} l p 
             answer-is = sym (rw (answer-sent xs) (over-nil answer));
             copy-is = k .room-is ∙ simp (y, sent-sent xs);
           });
+      stands = rw (← e) (ap (λ (x : Sending). sending.stateOf (x .sender) message) (sym is) ∙ (k .next ∙ simp y));
     }

@@ -37,7 +37,6 @@ use Rattle.sender.specs.Sender.{SenderState, waits, Sent, senderStep}
 use Rattle.sender.specs.Promises as sending
 use Rattle.sender.specs.declared.Sender.{Sender}
 use Rattle.sender.specs.declared.Heard.{Heard}
-use Rattle.sender.proofs.Standing.{control-stands}
 use Rattle.table.specs.Rows.{pairsSize}
 use Rattle.table.specs.Table.{answerData}
 use Rattle.table.proofs.Theorems.{answer-most}
@@ -139,13 +138,6 @@ module _ (c : CoreState) (body : List ℕ) (few : length (c .lastAnswer) ≤ rea
   unfolding packetStep
   kept-packet = packet-by (isAnswer (getD body 1 0)) (senderStep (c .sender) (heeded body))
 
--- The sender's control value after a packet stands for that state of the sender.
-after-by : (s : Sender) (message : List ℕ) (h : Heard) (a : Bool) →
-    sending.stateOf (pick a (senderHearing s message h) s) message ≡ pick a (senderStep (sending.stateOf s message) h .next) (sending.stateOf s message)
-unfolding senderHearing
-after-by s message h true = control-stands s message h
-after-by s message h false = refl
-
 -- ---- `received`
 
 module _ {h : Halves} {c : Core} {n : ℕ} {line body answers message answer copy : List ℕ} {a : Bool} {s : Stepped} {r : Taken}
@@ -157,13 +149,20 @@ module _ {h : Halves} {c : Core} {n : ℕ} {line body answers message answer cop
       record {
         stepped = s;
         steps = rw (← received .is) (simp (sym (p .is) ∙ e) (k .steps (keptIn h line) answers answer few));
+        stands = rw (← received .is) (simp (sym (p .is) ∙ e) (k .stands));
         settles = settles;
       }
 
   pub received-command : {last answers′ answer′ : List ℕ} → a ≡ false → Keeping h line last → Judges judgedStep c body last answers answer s answers′ answer′ →
       Receives h c n line answers message answer copy r answers′ answer′ copy
   unfolding packetStep senderAfter
-  received-command e q k = record { stepped = s; steps = rw (← received .is, ← q .is) (simp (sym (p .is) ∙ e) (k .steps message copy)); settles = settles }
+  received-command e q k =
+      record {
+        stepped = s;
+        steps = rw (← received .is, ← q .is) (simp (sym (p .is) ∙ e) (k .steps message copy));
+        stands = rw (← received .is) (simp (sym (p .is) ∙ e));
+        settles = settles;
+      }
 
 -- ---- one event
 
@@ -273,7 +272,7 @@ module _ {reader : Reader} {line : List ℕ} {e : Event} {l : Listened} {line′
         (rw (w .told-is) refl)
         (rw (w .told-is) (through-one heardStep (coreAt reader line answers message) (packet body)))
         (rw (w .told-is) refl)
-        (rw (after-by (reader .sender) message (heeded body) (isAnswer (getD body 1 0))) (kept-packet (coreAt reader line answers message) body (few-kept line answers message sound)))
+        (rw (rw (sound .is) at (receives .stands)) (kept-packet (coreAt reader line answers message) body (few-kept line answers message sound)))
         (w .most)
         (λ z. w .long)
         (λ z. w .idle)

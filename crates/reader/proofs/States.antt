@@ -21,7 +21,7 @@ use Rattle.reader.specs.declared.Started.{Started}
 
 -- Whatever stands in the buffers, a reader switched on has nothing begun, nothing out and no packet accepted.
 pub switched-on-state : {t : Table} {r : Reader} (line answers message : List ℕ) → SwitchedOn t r → stateOf r line answers message ≡ switchedOn (powerUp (valuesOf t))
-unfolding stateOf coreOf lastAnswerOf lineIn keptIn halfOf lastOf placeOf lineOf begunOf unmarked sending.stateOf sending.outOf sending.soundOf sending.madeOf powerUp
+unfolding stateOf coreOf lastAnswerOf lineIn keptIn halfOf lastOf placeOf lineOf begunOf unmarked sending.stateOf sending.outOf sending.soundOf sending.madeOf sending.placedOf sending.sizedOf sending.lastOf powerUp
 switched-on-state line answers message k = rw (k .is) refl
 
 pub powered-up-state : {reader r : Reader} (line answers message line′ answers′ message′ : List ℕ) → PowersUp reader r →

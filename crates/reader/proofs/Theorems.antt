@@ -7,7 +7,7 @@ use native.Mathlib.Omega.{arith}
 use lib.Dec.{eqb, ltb, leb}
 use lib.ListN.{getD}
 use borrow.Author.Tests.{le-ltb, le-leb, lt-leb, eq-eqb, ne-eqb}
-use Rattle.words.specs.Lists.{pick, both}
+use Rattle.words.specs.Lists.{pick, both, sameBytes}
 use Rattle.words.specs.Machine.{Done, after, through, given}
 use Rattle.words.proofs.Lists.{same-refl, never}
 use Rattle.words.proofs.Machine.{through-one}
@@ -23,17 +23,17 @@ use Rattle.framer.specs.Behind.{framed}
 use Rattle.framer.specs.declared.Event.{Event}
 use Rattle.framer.proofs.Outcomes as framer
 use Rattle.framer.proofs.Outcomes.{brings}
-use Rattle.sender.specs.Sender.{Sent, waits, senderStep, heedOf}
+use Rattle.sender.specs.Sender.{SenderState, Sent, waits, gapDue, senderStep, heedOf}
 use Rattle.sender.specs.Promises.{nameOf}
 use Rattle.sender.specs.declared.Outcome.the-variants as outcome
-use Rattle.sender.proofs.Theorems.{heard-unrefused}
+use Rattle.sender.proofs.Theorems.{rests, heard-unrefused}
 use Rattle.table.specs.Table.{Values}
 use Rattle.commands.specs.Commands.{DeviceState, namedBy, lengthAllowed, denied, acted, effect}
 use Rattle.commands.specs.declared.Command.{Command}
 use Rattle.commands.specs.declared.Named.the-variants.{Known}
 use Rattle.commands.proofs.Outcomes.{Does}
 use Rattle.commands.proofs.Theorems.{no-answer}
-use Rattle.reader.specs.Reader.{CoreState, ReaderState, Output, refused, repeated, beeped, switched, sent, ifHandshake, refusalAnswer, refuses, noPacketStep, answerTo, acts, commandStep, knownStep, namedStep, judgedStep, senderHears, packetStep, heardStep, readerStep, answered}
+use Rattle.reader.specs.Reader.{CoreState, ReaderState, Output, refused, repeated, beeped, switched, sent, ifHandshake, refusalAnswer, refuses, noPacketStep, answerTo, acts, commandStep, knownStep, namedStep, judgedStep, senderHears, packetStep, heardStep, readerStep, powerUpReader, answered}
 use Rattle.reader.specs.Promises.{toldOf, sentOf}
 use Rattle.reader.specs.declared.Told.the-variants as told
 use Rattle.reader.proofs.Answering.{sent-answering, sent-sent}
@@ -173,6 +173,37 @@ happens-unrefused (packet-heard body k) q = packet-unrefused k q
 pub sender-unrefused : (s : ReaderState) (e : Event) {x : Refusal} → nameOf (sentOf (readerStep s e .told)) ≡ outcome.Refused x → ⊥
 unfolding readerStep framed
 sender-unrefused s e q = happens-unrefused (event-happens s e) q
+
+-- ---- what the sender keeps of the message before
+
+packet-keeps : {c : CoreState} {body : List ℕ} {d : Done CoreState Output} → waits (c .sender) ≡ false → Outcome c body d → d .next .sender ≡ c .sender
+unfolding senderHears acts
+packet-keeps {c} w (heeds h) = ap (λ (x : Done SenderState Sent). x .next) (rests (c .sender) h w)
+packet-keeps w (turns h n) = refl
+packet-keeps w (repeats e) = refl
+packet-keeps w (acts-on k d) = refl
+
+happens-keeps : {c : CoreState} {d : Done CoreState Output} → waits (c .sender) ≡ false → Happens c d → d .next .sender ≡ c .sender
+unfolding noPacketStep
+happens-keeps w nothing = refl
+happens-keeps w (no-packet y h n) = simp w
+happens-keeps w (packet-heard body k) = packet-keeps w k
+
+-- With nothing out no event changes the sender, whatever the reader hears, does and answers.
+pub sender-kept : (s : ReaderState) (e : Event) → waits (s .core .sender) ≡ false → readerStep s e .next .core .sender ≡ s .core .sender
+unfolding readerStep framed
+sender-kept s e w = happens-keeps w (event-happens s e)
+
+-- So a start behind any events says of the message gap what it would have said before them.
+pub gap-kept : (s : ReaderState) (es : List Event) (p : List ℕ) → waits (s .core .sender) ≡ false → gapDue (through readerStep s es .next .core .sender) p ≡ gapDue (s .core .sender) p
+unfolding through after
+gap-kept s [] p w = refl
+gap-kept s (e ∷ es) p w = let k = sender-kept s e w in gap-kept (readerStep s e .next) es p (rw k w) ∙ ap (λ (x : SenderState). gapDue x p) k
+
+-- Power-up forgets the packet before and the failure.
+pub power-up-forgets : (s : ReaderState) (x : ℕ) (p : List ℕ) → gapDue (powerUpReader s .core .sender) (x ∷ p) ≡ false
+unfolding powerUpReader gapDue sameBytes
+power-up-forgets s x p = refl
 
 -- ---- commands that 4 to 7 let through
 

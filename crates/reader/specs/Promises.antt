@@ -16,7 +16,7 @@ use Rattle.framer.specs.Framer.{packet, refused as noPacket, framerStep}
 use Rattle.framer.specs.Halves.{lineIn, keptIn, receivedIn, idleHalves, halvesWith, listenedOf, bufferAfter, tellsNothing, acceptedOf}
 use Rattle.framer.specs.declared.Halves.{Halves}
 use Rattle.framer.specs.declared.Event.{Event}
-use Rattle.sender.specs.Sender.{Sent, senderStep, heedOf}
+use Rattle.sender.specs.Sender.{SenderState, Sent, senderStep, heedOf}
 use Rattle.sender.specs.Promises as sending
 use Rattle.sender.specs.declared.Heard.{Heard}
 use Rattle.sender.specs.declared.Heard.the-variants.{TimeOut}
@@ -103,13 +103,17 @@ accepts os = acceptsName (toldOf os)
 
 -- The sender's control value after a packet.
 unfoldable pub senderHearing : Sender → List ℕ → Heard → Sender
-senderHearing s message h = sending.controlAfter (sending.soundOf s) h (senderStep (sending.stateOf s message) h)
+senderHearing s message h = sending.controlAfter (sending.soundOf s) message h (senderStep (sending.stateOf s message) h .told)
 
 abbrev pub heeded : List ℕ → Heard
 heeded body = heedOf host (getD body 1 0) (getD body 2 0) (getD body 3 0) (dataIn body)
 
 unfoldable pub senderAfter : Sender → List ℕ → List ℕ → Sender
 senderAfter s message body = pick (isAnswer (getD body 1 0)) (senderHearing s message (heeded body)) s
+
+-- Its state: only an ACK or NAK goes to the sender.
+abbrev pub senderNext : SenderState → List ℕ → SenderState
+senderNext s body = pick (isAnswer (getD body 1 0)) (senderStep s (heeded body) .next) s
 
 abbrev pub coreAfter : Done CoreState Output → Sender → Core
 coreAfter d s = record { «last_answer» = length (d .next .lastAnswer); device = deviceFrom (d .next .device); sender = s }
@@ -292,6 +296,8 @@ pub record ToSender (c : Core) (body message copy : List ℕ) (r : Stepped) (cop
       (last answers answer : List ℕ) →
       c .«last_answer» ≤ length answers →
       Steps (senderHears (coreOf c last answers message) (senderStep (sending.stateOf (c .sender) message) (heeded body))) (senderHearing (c .sender) message (heeded body)) answers answer copy r answers answer copy′
+  -- The sender's control value stands for what its step leaves.
+  pub stands : sending.stateOf (senderHearing (c .sender) message (heeded body)) message ≡ senderStep (sending.stateOf (c .sender) message) (heeded body) .next
 
 pub record Again (c : Core) (answers answer : List ℕ) (r : Stepped) (answer′ : List ℕ) : Type 0 where
   pub is : r ≡ stepOf c told.Repeated (c .«last_answer»)
@@ -320,4 +326,5 @@ pub record Receives (h : Halves) (c : Core) (n : ℕ) (line answers message answ
   pub stepped : Stepped
   pub steps :
       Steps (packetStep (coreOf c (keptIn h line) answers message) (receivedIn h line n)) (senderAfter (c .sender) message (receivedIn h line n)) answers answer copy stepped answers′ answer′ copy′
+  pub stands : sending.stateOf (senderAfter (c .sender) message (receivedIn h line n)) message ≡ senderNext (sending.stateOf (c .sender) message) (receivedIn h line n)
   pub settles : Settles h n stepped r

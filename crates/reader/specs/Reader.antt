@@ -145,7 +145,7 @@ timeOut r = withCore r (senderHears (r .core) (senderStep (r .core .sender) Time
 
 -- A reader just switched on with these values: nothing begun, nothing out, no packet accepted.
 abbrev pub switchedOn : Values → ReaderState
-switchedOn v = record { line = hearing []; core = record { device = fresh v; last = []; lastAnswer = []; sender = nothingOut false } }
+switchedOn v = record { line = hearing []; core = record { device = fresh v; last = []; lastAnswer = []; sender = nothingOut false [] } }
 
 -- Power-up copies permanent to present, clears framer and sender and forgets the last accepted packet.
 unfoldable pub powerUpReader : ReaderState → ReaderState

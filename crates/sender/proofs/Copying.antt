@@ -1,70 +1,83 @@
--- What is heeded, which control values are taken, and the copy of the present packet: one law for each answer. The type and the piece
--- written behind each other are one write. Assumes nothing.
-use Prim.Native.Nat.{ℕ, zero, suc, _+_, _-_, _*_, _/_, _≤_, _<_}
+-- What is heeded, how long the next piece is, whether a gap is due, and the copy of the present packet: one law for each answer. The type and
+-- the piece written behind each other are one write. Assumes nothing.
+use Prim.Native.Nat.{ℕ, zero, suc, _+_, _-_, _/_, _≤_, _<_}
 use mathlib.Core.Path.{_≡_, refl, sym, ap, _∙_}
 use mathlib.Core.Bool.{Bool, true, false}
 use mathlib.Core.List.{List, [], _∷_, _++_}
 use native.Mathlib.Omega.{arith}
-use lib.Dec.{leb}
 use lib.ListN.{length, getD, take, drop, set, length-take, length-drop, length-set}
-use lib.Seq.{take-nil, take-take, length-take-le}
 use borrow.Author.Tests.{eq-eqb, ne-eqb, le-leb, lt-leb, lt-ltb, le-ltb}
-use Rattle.words.specs.Lists.{over, overAt, Copied}
+use Rattle.words.specs.Lists.{over, overAt, Copied, Compared}
 use Rattle.words.proofs.Lists.{part-over, copied-over, never}
 use Rattle.packet.specs.Opcodes.{reader, cmdAck, cmdNak, decodeData}
 use Rattle.packet.specs.Packet.{bodyOf, seal, sourceAllowed, fieldsOf, written}
-use Rattle.packet.specs.Promises.{Fill}
+use Rattle.packet.specs.Promises.{Fill, SizeOf}
 use Rattle.packet.specs.declared.Refusal.{Refusal}
 use Rattle.packet.specs.declared.Built.{Built}
 use Rattle.packet.specs.declared.Built.the-variants as built
 use Rattle.packet.proofs.Writing.{length-body, length-seal, enough, filled}
 use Rattle.packet.proofs.Judge.{status-piece}
 use Rattle.sender.specs.Sender.{heedOf}
-use Rattle.sender.specs.Promises.{Idle, Heeds, Made, Sounds, Refuses, movedTo, Moves, Fails, Out, Writes, Copies, madeOf, soundOf, messageOf, restOf, presentOf}
+use Rattle.sender.specs.Pieces.{nextSize}
+use Rattle.sender.specs.Promises.{Idle, Heeds, NextSize, dueOf, Due, Refuses, movedTo, Moves, deliveredControl, Ends, Fails, Fills, Presents, Copies, pieceOf, presentOf}
 use Rattle.sender.specs.declared.Sender.{Sender}
 use Rattle.sender.specs.declared.Heard.the-variants.{Ack, Nak, Nothing}
 use Rattle.sender.specs.declared.Outcome.the-variants as outcome
 use Rattle.sender.specs.declared.Sending.{Sending}
+use Rattle.sender.proofs.Cutting.{next-last, next-fits}
 
 -- ---- control values
-
-pub made-not : {s : Sender} → s .out ≡ false → Made s false
-unfolding madeOf
-made-not {s} e = record { is = simp e }
-
-pub made-long : {s : Sender} → s .out ≡ true → 4096 < s .length → Made s false
-unfolding madeOf
-made-long {s} e h = record { is = simp (e, lt-leb (s .length) 4096 h) }
-
-pub made-past : {s : Sender} → s .out ≡ true → s .length ≤ 4096 → s .length < s .at → Made s false
-unfolding madeOf
-made-past {s} e h l = record { is = simp (e, le-leb (s .length) 4096 h, lt-leb (s .at) (s .length) l) }
-
-pub made-often : {s : Sender} → s .out ≡ true → s .length ≤ 4096 → s .at ≤ s .length → 2 < s .resends → Made s false
-unfolding madeOf
-made-often {s} e h l m = record { is = simp (e, le-leb (s .length) 4096 h, le-leb (s .at) (s .length) l, lt-leb (s .resends) 2 m) }
-
-pub made-counted : {s : Sender} → s .out ≡ true → s .length ≤ 4096 → s .at ≤ s .length → s .resends ≤ 2 → Made s (leb (s .copies) (s .at / 250 * 2 + s .resends))
-unfolding madeOf
-made-counted {s} e h l m = record { is = simp (e, le-leb (s .length) 4096 h, le-leb (s .at) (s .length) l, le-leb (s .resends) 2 m) }
-
-module _ {s : Sender} {b : Bool} (made : Made s b) where
-  pub sound-same : b ≡ true → Sounds s s
-  unfolding soundOf
-  sound-same e = record { is = simp (sym (made .is) ∙ e) }
-
-  pub sound-idle : {i : Sender} → b ≡ false → Idle (s .failed) i → Sounds s i
-  unfolding soundOf
-  sound-idle e idle = record { is = simp (sym (made .is) ∙ e, idle .is) }
 
 pub refused-as : {s : Sender} {x : Refusal} → Refuses s x (record { sender = s; outcome = outcome.Refused x })
 refused-as = record { is = refl }
 
-pub moved-so : {s : Sender} {at resends copies : ℕ} → Moves s at resends copies (movedTo s at resends copies)
+pub moved-so : {s : Sender} {at size resends copies : ℕ} → Moves s at size resends copies (movedTo s at size resends copies)
 moved-so = record { is = refl }
+
+pub ends-so : {s : Sender} → Ends s (record { sender = deliveredControl s; outcome = outcome.Delivered (s .copies) })
+ends-so = record { is = refl }
 
 pub fails-idle : {s i : Sender} → Idle true i → Fails s (record { sender = i; outcome = outcome.Failed (s .copies) })
 fails-idle idle = record { is = simp (idle .is) }
+
+-- ---- the next piece
+
+pub next-rest : {before rest : List ℕ} → length rest ≤ 250 → NextSize before rest (length rest)
+next-rest {before} {rest} h = let e = next-last before rest h in record { is = sym e; sized = rw e at (next-fits before rest .sized) }
+
+module _ {before rest : List ℕ} {b : Bool} (h : 250 < length rest) (k : Compared before (take 250 rest) b) where
+  next-by : {n : ℕ} → nextSize before rest ≡ n → NextSize before rest n
+  next-by e = record { is = sym e; sized = rw e at (next-fits before rest .sized) }
+
+  pub next-cut : b ≡ true → NextSize before rest 249
+  unfolding nextSize
+  next-cut e = next-by (simp (lt-leb (length rest) 250 h, sym (k .is) ∙ e))
+
+  pub next-full : b ≡ false → NextSize before rest 250
+  unfolding nextSize
+  next-full e = next-by (simp (lt-leb (length rest) 250 h, sym (k .is) ∙ e))
+
+-- ---- the gap
+
+module _ {s : Sender} {buffer m : List ℕ} {code : ℕ} where
+  pub due-failed : s .failed ≡ true → Due s buffer code m true
+  unfolding dueOf
+  due-failed e = record { is = simp e }
+
+  module _ (f : s .failed ≡ false) where
+    pub due-none : s .delivered ≡ false → Due s buffer code m false
+    unfolding dueOf
+    due-none d = record { is = simp (f, d) }
+
+    pub due-other : s .delivered ≡ true → (s .code ≡ code → ⊥) → Due s buffer code m false
+    unfolding dueOf
+    due-other d n = record { is = simp (f, d, ne-eqb (s .code) code n) }
+
+    pub due-same : {b : Bool} → s .delivered ≡ true → s .code ≡ code → Compared (take (s .at + s .size - s .at) (drop (s .at) buffer)) m b → Due s buffer code m b
+    unfolding dueOf pieceOf
+    due-same d e k =
+        let n : s .at + s .size - s .at ≡ s .size = omega arith in
+        record { is = k .is ∙ simp (f, d, eq-eqb (s .code) code e, n) }
 
 -- ---- what is heeded
 
@@ -136,45 +149,29 @@ copy-packed {code} {t} {n} {piece} {room} {part} {room₂} {r} h l k m copied fi
     let is-written = done .0 ∙ (enough 257 room decodeData reader t (length held) l ∙ says) in
     record { is = is-written; room-is = done .1 ∙ rw is-written refl }
 
-module _ {s : Sender} {held room room₂ : List ℕ} {t : ℕ} {r : Built} (packed : Packed held t room r room₂) where
-  pub copy-written : {size : ℕ} → r ≡ built.Written size → Writes s (bodyOf decodeData reader t held) room (record { sender = s; outcome = outcome.Copy size }) room₂
-  copy-written {size} e =
-      let same : size ≡ length held + 6 = let k = packed .is in cc in
-      let long : length (seal (bodyOf decodeData reader t held)) ≡ length held + 6 =
-      length-seal (bodyOf decodeData reader t held) ∙ rw (length-body decodeData reader t held) (omega arith) in
-      record { is = simp (same, long); room-is = packed .room-is }
-
-  pub copy-never : {x : Refusal} {g : Sending} → r ≡ built.Refused x → Writes s (bodyOf decodeData reader t held) room g room₂
-  copy-never e = let k = packed .is in never (cc)
+pub copy-filled : {held room room₂ : List ℕ} {t size : ℕ} {r : Built} → Packed held t room r room₂ → SizeOf r size → Fills (bodyOf decodeData reader t held) room size room₂
+copy-filled {held} {t = t} packed k =
+    let long : length (seal (bodyOf decodeData reader t held)) ≡ length held + 6 =
+    length-seal (bodyOf decodeData reader t held) ∙ rw (length-body decodeData reader t held) (omega arith) in
+    record { is = k .is ∙ rw (packed .is) (sym long); room-is = packed .room-is }
 
 -- ---- the present packet
 
--- What is left of the message, in the buffer.
-pub drop-take : (at n : ℕ) (s : List ℕ) → drop at (take n s) ≡ take (n - at) (drop at s)
-drop-take zero n s = let e : n - 0 ≡ n = omega arith in rw e refl
-drop-take (suc at) zero s = let e : 0 - suc at ≡ 0 = omega arith in rw e refl
-drop-take (suc at) (suc n) [] = sym (take-nil (suc n - suc at))
-drop-take (suc at) (suc n) (x ∷ xs) = let e : suc n - suc at ≡ n - at = omega arith in rw e (drop-take at n xs)
+module _ {s : Sender} {buffer room room′ : List ℕ} {mark size : ℕ} where
+  pub present-more : s .at + s .size < s .length → Fills (bodyOf decodeData reader (mark + 2) (s .code ∷ take (s .at + s .size - s .at) (drop (s .at) buffer))) room size room′ →
+      Presents s buffer mark room size room′
+  unfolding presentOf pieceOf
+  present-more h w =
+      let n : s .at + s .size - s .at ≡ s .size = omega arith in
+      record { fills = simp (lt-ltb (s .at + s .size) (s .length) h) (rw n at w) }
 
-pub length-rest : {s : Sender} (buffer : List ℕ) → Out s → length buffer ≡ 4096 → length (restOf s buffer) ≡ s .length - s .at
-unfolding restOf messageOf
-length-rest {s} buffer o l = length-drop (s .at) (take (s .length) buffer) ∙ rw (length-take-le (s .length) buffer (let f = o .fits in omega arith)) refl
-
-module _ {s : Sender} {buffer room room′ : List ℕ} {mark : ℕ} {r : Sending} (o : Out s) (l : length buffer ≡ 4096) where
-  pub present-cut : 250 < s .length - s .at → Writes s (bodyOf decodeData reader (mark + 2) (s .code ∷ take (s .at + 250 - s .at) (drop (s .at) buffer))) room r room′ →
-      Copies s buffer mark room r room′
-  unfolding presentOf restOf messageOf
-  present-cut h w =
-      let long = length-rest buffer o l in
-      let rest : List ℕ = drop (s .at) (take (s .length) buffer) in
-      let n : s .at + 250 - s .at ≡ 250 = omega arith in
-      let part : take 250 rest ≡ take 250 (drop (s .at) buffer) = rw (drop-take (s .at) (s .length) buffer) (take-take 250 (s .length - s .at) (drop (s .at) buffer) (omega arith)) in
-      record { writes = simp (lt-ltb 250 (length rest) (omega arith), part) (rw n at w) }
-
-  pub present-last : s .length - s .at ≤ 250 → Writes s (bodyOf decodeData reader mark (s .code ∷ take (s .length - s .at) (drop (s .at) buffer))) room r room′ →
-      Copies s buffer mark room r room′
-  unfolding presentOf restOf messageOf
+  pub present-last : s .length ≤ s .at + s .size → Fills (bodyOf decodeData reader mark (s .code ∷ take (s .at + s .size - s .at) (drop (s .at) buffer))) room size room′ →
+      Presents s buffer mark room size room′
+  unfolding presentOf pieceOf
   present-last h w =
-      let long = length-rest buffer o l in
-      let rest : List ℕ = drop (s .at) (take (s .length) buffer) in
-      record { writes = simp (le-ltb 250 (length rest) (omega arith)) (rw (sym (drop-take (s .at) (s .length) buffer)) at w) }
+      let n : s .at + s .size - s .at ≡ s .size = omega arith in
+      record { fills = simp (le-ltb (s .at + s .size) (s .length) h) (rw n at w) }
+
+  -- What is told of it.
+  pub copies-as : {gap : Bool} → Presents s buffer mark room size room′ → Copies s buffer mark gap room (record { sender = s; outcome = outcome.Copy size gap }) room′
+  copies-as k = record { writes = record { is = simp (k .fills .is); room-is = k .fills .room-is } }

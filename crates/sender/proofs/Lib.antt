@@ -1,6 +1,8 @@
 pub mod Answering
 pub mod Copying
 pub mod Cutting
+pub mod Pieces
+pub mod Placing
 pub mod Refusing
 pub mod Standing
 pub mod Theorems

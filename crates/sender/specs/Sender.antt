@@ -4,7 +4,7 @@ use mathlib.Core.Bool.{Bool, true, false}
 use mathlib.Core.List.{List, [], _∷_}
 use lib.Dec.{eqb, ltb}
 use lib.ListN.{length, getD}
-use Rattle.words.specs.Lists.{pick, both, either}
+use Rattle.words.specs.Lists.{pick, both, either, sameBytes}
 use Rattle.words.specs.Machine.{Done}
 use Rattle.packet.specs.Opcodes.{cmdAck, cmdNak}
 use Rattle.packet.specs.Packet.{marked}
@@ -16,22 +16,28 @@ use Rattle.sender.specs.declared.Heard.{Heard}
 use Rattle.sender.specs.declared.Heard.the-variants.{Ack, Nak, TimeOut, Nothing}
 
 -- The packets still to be acknowledged, the present one first (none: no message is out); how often the present one was resent; the
--- marked copies written for this message; and whether the message before failed.
+-- marked copies written for this message. With none out: whether the message before failed, and else its last packet's body (no bytes: there was none).
 pub record SenderState : Type 0 where
   pub queue : List (List ℕ)
   pub resends : ℕ
   pub copies : ℕ
   pub failed : Bool
+  pub last : List ℕ
 
--- What the sender gives out: a copy of a packet (its body), the end of a message with the number of its marked copies, or a refusal.
+-- What the sender gives out: a copy of a packet (its body), with whether a message gap is due before it; the end of a message with the number
+-- of its marked copies; or a refusal.
 pub data Sent : Type 0 where
-  copy : List ℕ → Sent
+  copy : Bool → List ℕ → Sent
   delivered : ℕ → Sent
   failed : ℕ → Sent
   refused : Refusal → Sent
 
-abbrev pub nothingOut : Bool → SenderState
-nothingOut f = record { queue = []; resends = 0; copies = 0; failed = f }
+abbrev pub nothingOut : Bool → List ℕ → SenderState
+nothingOut f p = record { queue = []; resends = 0; copies = 0; failed = f; last = p }
+
+-- With a message out nothing is kept of the one before.
+abbrev pub sending : List (List ℕ) → ℕ → ℕ → SenderState
+sending q r c = record { queue = q; resends = r; copies = c; failed = false; last = [] }
 
 abbrev pub ignores : SenderState → Done SenderState Sent
 ignores s = record { next = s; told = [] }
@@ -44,14 +50,15 @@ some (p ∷ ps) = true
 abbrev pub waits : SenderState → Bool
 waits s = some (s .queue)
 
--- Is a message gap due before the first packet of the next message?
-unfoldable pub gapDue : SenderState → Bool
-gapDue s = s .failed
+-- Is a message gap due before a message that begins with this packet? After one that failed, and where the packet equals the last one of the
+-- message before: were its first copy lost, a hub would take its marked copy for a resend of that one.
+unfoldable pub gapDue : SenderState → List ℕ → Bool
+gapDue s p = either (s .failed) (sameBytes (s .last) p)
 
 -- A start: 11 for a message that is too long, or one still out; else the first copy.
 unfoldable pub begins : List (List ℕ) → SenderState → Done SenderState Sent
 begins [] s = ignores s
-begins (p ∷ ps) s = record { next = record { queue = p ∷ ps; resends = 0; copies = 0; failed = false }; told = copy p ∷ [] }
+begins (p ∷ ps) s = record { next = sending (p ∷ ps) 0 0; told = copy (gapDue s p) p ∷ [] }
 
 unfoldable pub startStep : SenderState → ℕ → List ℕ → Done SenderState Sent
 startStep s code m =
@@ -63,19 +70,19 @@ resendLimit = 2
 
 -- NAK 1 or a time-out resends with bit 0 set, so often; then failed.
 unfoldable pub fails : SenderState → Done SenderState Sent
-fails s = record { next = nothingOut true; told = failed (s .copies) ∷ [] }
+fails s = record { next = nothingOut true []; told = failed (s .copies) ∷ [] }
 
 unfoldable pub resends : List ℕ → SenderState → Done SenderState Sent
 resends p s =
     pick (ltb (s .resends) resendLimit)
-    (record { next = record { queue = s .queue; resends = s .resends + 1; copies = s .copies + 1; failed = s .failed }; told = copy (marked p) ∷ [] })
+    (record { next = sending (s .queue) (s .resends + 1) (s .copies + 1); told = copy false (marked p) ∷ [] })
     (fails s)
 
 -- ACK goes on to the next packet or reports delivered. Another NAK cause fails at once. With nothing out, all of these do nothing.
 unfoldable pub outStep : List (List ℕ) → SenderState → Heard → Done SenderState Sent
 outStep [] s h = ignores s
-outStep (p ∷ []) s Ack = record { next = nothingOut false; told = delivered (s .copies) ∷ [] }
-outStep (p ∷ q ∷ ps) s Ack = record { next = record { queue = q ∷ ps; resends = 0; copies = s .copies; failed = s .failed }; told = copy q ∷ [] }
+outStep (p ∷ []) s Ack = record { next = nothingOut false p; told = delivered (s .copies) ∷ [] }
+outStep (p ∷ q ∷ ps) s Ack = record { next = sending (q ∷ ps) 0 (s .copies); told = copy false q ∷ [] }
 outStep (p ∷ ps) s (Nak cause) = pick (eqb cause 1) (resends p s) (fails s)
 outStep (p ∷ ps) s TimeOut = resends p s
 outStep (p ∷ ps) s Nothing = ignores s

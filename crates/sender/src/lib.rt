@@ -1,5 +1,4 @@
 // The reader's sender: a message cut into packets, each copied to the line until it is acknowledged.
-use packet::Built;
 use packet::DECODE_DATA;
 use packet::MESSAGE_SIZE;
 use packet::PACKET_SIZE;
@@ -7,30 +6,36 @@ use packet::READER;
 use packet::Refusal;
 ghost use Prim.Native.Nat.{_+_, _≤_, _<_};
 ghost use mathlib.Core.Path.{_≡_};
+ghost use mathlib.Core.Bool.{true, false};
 ghost use mathlib.Core.List.{_∷_};
 ghost use lib.ListN.{length};
 ghost use Rattle.packet.specs.Opcodes.{decodeData, reader};
 ghost use Rattle.packet.specs.Packet.{bodyOf};
 ghost use Rattle.packet.specs.Sizes.{packetSize, messageSize};
 ghost use Rattle.sender.specs.Pieces.{pieceSize};
-ghost use Rattle.sender.specs.Promises.{Idle, Starts, Hears, Waits, Heeds, Sounds, Made, Refuses, Moves, Fails, Out, Writes, Copies, OutSteps};
+ghost use Rattle.sender.specs.Promises.{Idle, Starts, Hears, Waits, Heeds, NextSize, Sounds, Sized, Placed, Made, Refuses, Moves, Ends, Fails, Due, Out, Fills, Presents, Begins, OutSteps};
 
 // What a piece holds: the data of a packet without the code type.
 const PIECE_SIZE: usize = packet::DATA_SIZE - 1;
+// A piece that is cut one byte shorter.
+const CUT_SIZE: usize = PIECE_SIZE - 1;
 // How often a packet is resent at most.
 const RESEND_LIMIT: usize = 2;
 
-// The sender's control value. `at` is where the present piece starts in the message buffer; `resends` counts those of the
-// present packet, `copies` the marked copies of the message.
+// The sender's control value. `at` is where the present piece starts in the message buffer, `size` how many bytes it has;
+// `resends` counts those of the present packet, `copies` the marked copies of the message.
 pub struct Sender {
     pub out: bool,
     pub code: u8,
     pub length: usize,
     pub at: usize,
+    pub size: usize,
     pub resends: usize,
     pub copies: usize,
-    // the message before failed
+    // nothing is out, and the message before failed
     pub failed: bool,
+    // nothing is out, and the message before was delivered: its last piece still stands in the buffer
+    pub delivered: bool,
 }
 
 // What the sender hears of the host.
@@ -41,10 +46,11 @@ pub enum Heard {
     Nothing,
 }
 
-// What a call brought: a copy of so many bytes in the room, or a message's end with the number of its marked copies.
+// What a call brought: a copy of so many bytes in the room, with whether a message gap is due before it; or a message's end with
+// the number of its marked copies.
 pub enum Outcome {
     Nothing,
-    Copy(usize),
+    Copy { size: usize, gap: bool },
     Delivered(usize),
     Failed(usize),
     Refused(Refusal),
@@ -64,13 +70,16 @@ pub fn idle(failed: bool) -> Sender
         code: 0,
         length: 0,
         at: 0,
+        size: 0,
         resends: 0,
         copies: 0,
         failed,
+        delivered: false,
     }
 }
 
-// Starts a message: it is copied, and the first copy of its first packet is written.
+// Starts a message: it is copied, and the first copy of its first packet is written. The outcome says whether a message gap is
+// due before it.
 pub fn start(
     sender: Sender,
     buffer: &mut [u8; MESSAGE_SIZE],
@@ -90,17 +99,7 @@ pub fn start(
     if now.out {
         return refused(sender, Refusal::Start);
     }
-    words::copy(message, buffer);
-    let next = Sender {
-        out: true,
-        code,
-        length: message.len(),
-        at: 0,
-        resends: 0,
-        copies: 0,
-        failed: false,
-    };
-    present(next, buffer, room, 0)
+    begin(now, buffer, room, code, message)
 }
 
 // One thing heard of the host.
@@ -152,6 +151,62 @@ pub fn heed(heeded: u8, opcode: u8, source: u8, status: u8, data: &[u8]) -> Hear
     Heard::Nothing
 }
 
+// The last packet of the message before stands in the buffer until this one is copied over it.
+fn begin(sender: Sender, buffer: &mut [u8], room: &mut [u8], code: u8, message: &[u8]) -> Sending
+    requires { ⌜ (sender .at + sender .size ≤ messageSize) × (length (now buffer) ≡ messageSize) × (packetSize ≤ length (now room)) × (length (now message) ≤ messageSize) ⌝ }
+    ensures { λ r. ⌜ Begins sender (now (buffer .entry)) (now (room .entry)) code (now (message .entry)) r (now (buffer .exit)) (now (room .exit)) ⌝ }
+{
+    let gap = gap_due(sender, buffer, code, message);
+    words::copy(message, buffer);
+    let next = Sender {
+        out: true,
+        code,
+        length: message.len(),
+        at: 0,
+        size: next_size(&message[..0], message),
+        resends: 0,
+        copies: 0,
+        failed: false,
+        delivered: false,
+    };
+    let size = present(next, buffer, room, 0);
+    Sending {
+        sender: next,
+        outcome: Outcome::Copy { size, gap },
+    }
+}
+
+// Whether a message gap is due before a message: the one before failed, or its last packet is this message in one piece.
+fn gap_due(sender: Sender, buffer: &[u8], code: u8, message: &[u8]) -> bool
+    requires { ⌜ (sender .at + sender .size ≤ messageSize) × (length (now buffer) ≡ messageSize) ⌝ }
+    ensures { λ r. ⌜ Due sender (now (buffer .entry)) code (now (message .entry)) r ⌝ }
+{
+    if sender.failed {
+        return true;
+    }
+    if sender.delivered {
+        if sender.code == code {
+            let from = sender.at;
+            let end = from + sender.size;
+            return words::same(&buffer[from..end], message);
+        }
+    }
+    false
+}
+
+// How many bytes of the rest the next piece holds, behind the piece before it.
+fn next_size(before: &[u8], rest: &[u8]) -> usize
+    ensures { λ r. ⌜ NextSize (now (before .entry)) (now (rest .entry)) r ⌝ }
+{
+    if rest.len() <= PIECE_SIZE {
+        return rest.len();
+    }
+    if words::same(before, &rest[..PIECE_SIZE]) {
+        return CUT_SIZE;
+    }
+    PIECE_SIZE
+}
+
 // What is refused changes nothing.
 fn refused(sender: Sender, refusal: Refusal) -> Sending
     ensures { λ r. ⌜ Refuses sender refusal r ⌝ }
@@ -162,7 +217,7 @@ fn refused(sender: Sender, refusal: Refusal) -> Sending
     }
 }
 
-// Any control value is taken: one that no run leaves is not out.
+// Any control value is taken: one that no run leaves is not out, and keeps no packet.
 fn sound(sender: Sender) -> Sender
     ensures { λ r. ⌜ Sounds sender r ⌝ }
 {
@@ -172,20 +227,48 @@ fn sound(sender: Sender) -> Sender
     idle(sender.failed)
 }
 
-// Whether a message is out as a run leaves it: within the buffer, with no more marked copies than its packets can have had.
+// Whether a run leaves this: a message out, with no more marked copies than its packets can have had, or the last piece of one
+// that was delivered.
 fn made(sender: Sender) -> bool
     ensures { λ r. ⌜ Made sender r ⌝ }
 {
-    if sender.out {
-        if sender.length <= MESSAGE_SIZE {
-            if sender.at <= sender.length {
-                if sender.resends <= RESEND_LIMIT {
-                    return sender.copies <= sender.at / PIECE_SIZE * RESEND_LIMIT + sender.resends;
-                }
+    if placed(sender) {
+        if sender.out {
+            if sender.resends <= RESEND_LIMIT {
+                return sender.copies <= sender.at / CUT_SIZE * RESEND_LIMIT + sender.resends;
             }
+            return false;
+        }
+        if sender.delivered {
+            return sender.length - sender.at <= PIECE_SIZE;
         }
     }
     false
+}
+
+// Whether the piece lies within the buffer.
+fn placed(sender: Sender) -> bool
+    ensures { λ r. ⌜ Placed sender r ⌝ }
+{
+    if sender.length <= MESSAGE_SIZE {
+        if sender.at <= sender.length {
+            return sized(sender.length - sender.at, sender.size);
+        }
+    }
+    false
+}
+
+// Whether a piece can have this size, with so many bytes left of its message.
+fn sized(left: usize, size: usize) -> bool
+    ensures { λ r. ⌜ Sized left size r ⌝ }
+{
+    if left <= PIECE_SIZE {
+        return size == left;
+    }
+    if size < CUT_SIZE {
+        return false;
+    }
+    size <= PIECE_SIZE
 }
 
 // One step with a message out.
@@ -209,14 +292,19 @@ fn onward(sender: Sender, buffer: &[u8], room: &mut [u8]) -> Sending
     requires { ⌜ Out sender × (length (now buffer) ≡ messageSize) × (packetSize ≤ length (now room)) ⌝ }
     ensures { λ r. ⌜ OutSteps sender (now (buffer .entry)) (now (room .entry)) Heard.Ack r (now (room .exit)) ⌝ }
 {
-    if PIECE_SIZE < sender.length - sender.at {
-        let next = moved(sender, sender.at + PIECE_SIZE, 0, sender.copies);
-        return present(next, buffer, room, 0);
+    let from = sender.at;
+    let end = from + sender.size;
+    let whole = sender.length;
+    if end < whole {
+        let size = next_size(&buffer[from..end], &buffer[end..whole]);
+        let next = moved(sender, end, size, 0, sender.copies);
+        let size = present(next, buffer, room, 0);
+        return Sending {
+            sender: next,
+            outcome: Outcome::Copy { size, gap: false },
+        };
     }
-    Sending {
-        sender: idle(false),
-        outcome: Outcome::Delivered(sender.copies),
-    }
+    ended(sender)
 }
 
 // NAK 1 resends, another cause fails at once.
@@ -236,24 +324,56 @@ fn again(sender: Sender, buffer: &[u8], room: &mut [u8]) -> Sending
     ensures { λ r. ⌜ OutSteps sender (now (buffer .entry)) (now (room .entry)) Heard.TimeOut r (now (room .exit)) ⌝ }
 {
     if sender.resends < RESEND_LIMIT {
-        let next = moved(sender, sender.at, sender.resends + 1, sender.copies + 1);
-        return present(next, buffer, room, 1);
+        let next = moved(
+            sender,
+            sender.at,
+            sender.size,
+            sender.resends + 1,
+            sender.copies + 1,
+        );
+        let size = present(next, buffer, room, 1);
+        return Sending {
+            sender: next,
+            outcome: Outcome::Copy { size, gap: false },
+        };
     }
     failed(sender)
 }
 
-// The same message with its present piece at this place.
-fn moved(sender: Sender, at: usize, resends: usize, copies: usize) -> Sender
-    ensures { λ r. ⌜ Moves sender at resends copies r ⌝ }
+// The same message with this piece as its present one.
+fn moved(sender: Sender, at: usize, size: usize, resends: usize, copies: usize) -> Sender
+    ensures { λ r. ⌜ Moves sender at size resends copies r ⌝ }
 {
     Sender {
         out: true,
         code: sender.code,
         length: sender.length,
         at,
+        size,
         resends,
         copies,
-        failed: sender.failed,
+        failed: false,
+        delivered: false,
+    }
+}
+
+// Delivered: the last piece is kept, to be compared with the message that comes next.
+fn ended(sender: Sender) -> Sending
+    ensures { λ r. ⌜ Ends sender r ⌝ }
+{
+    Sending {
+        sender: Sender {
+            out: false,
+            code: sender.code,
+            length: sender.length,
+            at: sender.at,
+            size: sender.size,
+            resends: 0,
+            copies: 0,
+            failed: false,
+            delivered: true,
+        },
+        outcome: Outcome::Delivered(sender.copies),
     }
 }
 
@@ -266,32 +386,26 @@ fn failed(sender: Sender) -> Sending
     }
 }
 
-// A copy of the present packet, marked or not.
-fn present(sender: Sender, buffer: &[u8], room: &mut [u8], mark: u8) -> Sending
+// A copy of the present packet, marked or not, and its size. It gives no sender back, so that none is moved for it.
+fn present(sender: Sender, buffer: &[u8], room: &mut [u8], mark: u8) -> usize
     requires { ⌜ Out sender × (length (now buffer) ≡ messageSize) × (packetSize ≤ length (now room)) × (mark < 2) ⌝ }
-    ensures { λ r. ⌜ Copies sender (now (buffer .entry)) mark (now (room .entry)) r (now (room .exit)) ⌝ }
+    ensures { λ r. ⌜ Presents sender (now (buffer .entry)) mark (now (room .entry)) r (now (room .exit)) ⌝ }
 {
     let from = sender.at;
-    let end = sender.length;
-    if PIECE_SIZE < end - from {
-        let cut = from + PIECE_SIZE;
-        return copy(sender, &buffer[from..cut], room, mark + 2);
+    let end = from + sender.size;
+    if end < sender.length {
+        return copy(sender.code, &buffer[from..end], room, mark + 2);
     }
-    copy(sender, &buffer[from..end], room, mark)
+    copy(sender.code, &buffer[from..end], room, mark)
 }
 
 // The type and the piece go into the room from the fifth byte on, then header and checksum around them.
-fn copy(sender: Sender, piece: &[u8], room: &mut [u8], status: u8) -> Sending
+fn copy(code: u8, piece: &[u8], room: &mut [u8], status: u8) -> usize
     requires { ⌜ (length (now piece) ≤ pieceSize) × (packetSize ≤ length (now room)) × (status < 4) ⌝ }
-    ensures { λ r. ⌜ Writes sender (bodyOf decodeData reader status (sender .code ∷ now (piece .entry))) (now (room .entry)) r (now (room .exit)) ⌝ }
+    ensures { λ r. ⌜ Fills (bodyOf decodeData reader status (code ∷ now (piece .entry))) (now (room .entry)) r (now (room .exit)) ⌝ }
 {
-    room[4] = sender.code;
+    room[4] = code;
     words::copy(piece, &mut room[5..]);
-    match packet::fill(room, DECODE_DATA, READER, status, piece.len() + 1) {
-        Built::Written(size) => Sending {
-            sender,
-            outcome: Outcome::Copy(size),
-        },
-        Built::Refused(refusal) => refused(sender, refusal),
-    }
+    let count = piece.len() + 1;
+    packet::size_of(packet::fill(room, DECODE_DATA, READER, status, count))
 }

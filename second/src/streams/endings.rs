@@ -32,13 +32,14 @@ pub const HUB_ENDINGS: [&[u8]; 25] = [
 ];
 
 /// A form's token not ended, or with something else inside, too.
-pub const READER_ENDINGS: [&[u8]; 52] = [
+pub const READER_ENDINGS: [&[u8]; 53] = [
     b"",
     b"\n",
     b"\r\n",
     b"\t",
     b"x",
     b"G",
+    b"I",
     b"t",
     b"p",
     b"s",

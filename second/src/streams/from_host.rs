@@ -1,6 +1,7 @@
 //! What may come to a reader's end: commands, answers, and the reader's own starts, time-outs, power-ups and saved
 //! sets.
 
+use super::cards;
 use super::damage::{contents, cut, damaged};
 use super::sets::{self, bad_value, good_value};
 use super::{Hand, Line, Stream};
@@ -30,6 +31,8 @@ pub struct FromHost {
     kindness: usize,
     /// Forms saved not long ago.
     saved: Vec<Vec<u8>>,
+    /// The message started last, with its code type in front.
+    started: Vec<u8>,
 }
 
 impl Line for FromHost {
@@ -101,9 +104,10 @@ impl Line for FromHost {
                 _ => self.step_on_commands(),
             }
         } else {
-            match self.dice.weigh(&[12, 6, 82]) {
+            match self.dice.weigh(&[9, 6, 3, 82]) {
                 0 => self.start(),
                 1 => self.answer_or_time_out(),
+                2 => self.card_again(),
                 _ => self.step_on_commands(),
             }
         }
@@ -115,7 +119,15 @@ impl FromHost {
     pub fn new(seed: u64, desk: bool) -> FromHost {
         let mut dice = Dice::new(seed);
         let hand = Hand::new(dice.next(), desk.then_some(ANSWER_ROOM));
-        FromHost { dice, hand, reader: Reader::new(), watch: ReaderWatch::new(desk), kindness: 50, saved: Vec::new() }
+        FromHost {
+            dice,
+            hand,
+            reader: Reader::new(),
+            watch: ReaderWatch::new(desk),
+            kindness: 50,
+            saved: Vec::new(),
+            started: vec![0x1B],
+        }
     }
 
     fn step_on_commands(&mut self) {
@@ -189,7 +201,7 @@ impl FromHost {
         let waits = self.reader.sender().waits();
         // One that will be refused for the one out need not be long as well.
         let size = if waits && self.dice.chance(90) { self.dice.below(5) } else { self.message_size() };
-        let mut message = vec![self.dice.pick(&[0x1B, 0x01, 0x00, 0xFF])];
+        let mut message = vec![cards::code_type(&mut self.dice)];
         message.extend(contents(&mut self.dice, size));
         if !waits {
             self.kindness = if size > 1_000 { 97 } else { self.dice.pick(&[95, 70, 40, 15]) };
@@ -205,7 +217,66 @@ impl FromHost {
         self.hand.pen.start(message);
         let before = ReaderLook::at(&self.reader);
         let step = self.reader.start(message[0], &message[1..]);
-        self.watch.start(before, message.len() - 1, &step);
+        self.watch.start(before, message, &step);
+        if step.refusal.is_none() {
+            self.started = message.to_vec();
+        }
+    }
+
+    pub fn waits(&self) -> bool {
+        self.reader.sender().waits()
+    }
+
+    /// A message, then several that equal its last packet or nearly do, with something between them or nothing.
+    fn card_again(&mut self) {
+        let message = match self.dice.weigh(&[50, 35, 15]) {
+            0 => cards::card(&mut self.dice),
+            1 => cards::alike(&mut self.dice),
+            _ => self.started.clone(),
+        };
+        self.start_and_carry(&message);
+        for _ in 0..self.dice.between(1, 4) {
+            let card = self.packet_before();
+            self.between_cards();
+            let message = cards::near(&mut self.dice, &card);
+            self.start_and_carry(&message);
+        }
+    }
+
+    /// Code type and last piece of the message before. Where there is none, it was forgotten at a power-up: then of the
+    /// one started last, if it had a single piece.
+    fn packet_before(&mut self) -> Vec<u8> {
+        match self.reader.sender().before() {
+            Some(packet) => packet[HEADER..].to_vec(),
+            None if self.started.len() <= MOST_DATA => self.started.clone(),
+            None => cards::card(&mut self.dice),
+        }
+    }
+
+    fn start_and_carry(&mut self, message: &[u8]) {
+        self.kindness = if message.len() > 1_000 { 97 } else { self.dice.pick(&[97, 97, 70, 15]) };
+        self.start_message(message);
+        match self.dice.weigh(&[85, 10, 5]) {
+            0 => {}
+            1 => self.start(),
+            _ => self.power_up_alone(),
+        }
+        self.carry_through();
+    }
+
+    fn between_cards(&mut self) {
+        match self.dice.weigh(&[30, 20, 15, 10, 10, 5, 10]) {
+            0 => {}
+            1 => self.plain_command(),
+            2 => self.disturb(),
+            3 => self.some_set(),
+            4 => self.power_up_alone(),
+            5 => {
+                let message = vec![0x38; 1 + LONGEST_MESSAGE + 1];
+                self.start_message(&message);
+            }
+            _ => self.step_on_commands(),
+        }
     }
 
     /// Answers a long message to its end, with few other things between.

@@ -1,6 +1,7 @@
 //! Seeded streams made to find differences. Each is written beside a machine of this program, so that it knows which
 //! state it has reached and can steer for the rare ones.
 
+mod cards;
 mod damage;
 mod endings;
 mod from_host;
@@ -11,6 +12,7 @@ mod sets;
 mod sweep;
 mod texts;
 
+pub use cards::{alike, near};
 pub use damage::spoiled;
 pub use texts::{every_text, texts};
 

@@ -1,12 +1,15 @@
 //! What is few enough to be tried whole: every opcode with every status, every source, every data length, every code
-//! and every pair, every byte of a saved set's form and every choice of locks. These streams have no seed.
+//! and every pair, every byte of a saved set's form and every choice of locks, cards of every size after equal ones,
+//! and pieces that are unlike in any one place. These streams have no seed.
 
 use super::from_host::FromHost;
 use super::from_reader::FromReader;
 use super::Line;
 use crate::form::{load, save, LONGEST_FORM, WITHOUT_LOCKS};
 use crate::framer::LineEvent;
+use crate::hub::LONGEST_MESSAGE;
 use crate::packet::*;
+use crate::sender::PIECE;
 use crate::table::{allowed, Table, NO_BEEP, ROWS};
 use crate::watch_sets::LENGTHS;
 
@@ -98,6 +101,8 @@ pub fn reader(stream: &mut FromHost) {
     reader_answers(stream);
     reader_forms(stream);
     reader_locks(stream);
+    reader_cards(stream);
+    reader_pieces(stream);
 }
 
 /// Every beep code, every number asked for, every pair.
@@ -140,6 +145,53 @@ fn reader_answers(stream: &mut FromHost) {
             stream.event(LineEvent::Gap);
         }
     }
+}
+
+/// Starts a message of type 1Bh and acknowledges all of its packets.
+fn deliver(stream: &mut FromHost, bytes: &[u8]) {
+    stream.start_message(&[&[0x1B], bytes].concat());
+    while stream.waits() {
+        stream.send(&lay_out(CMD_ACK, HOST, 0, &[]));
+    }
+}
+
+/// Cards of every size behind an equal one, behind a message that ends in an equal piece, and behind nearly equal ones.
+fn reader_cards(stream: &mut FromHost) {
+    for size in 0..=PIECE {
+        let mut bytes = [[0x37; PIECE], [0x38; PIECE]].concat();
+        bytes.truncate(PIECE + size);
+        let card = bytes[PIECE..].to_vec();
+        deliver(stream, &bytes);
+        // A message of 250 bytes is one piece.
+        deliver(stream, &card);
+        deliver(stream, &card);
+        for place in [0, size.saturating_sub(1)].into_iter().filter(|place| *place < size) {
+            let mut other = card.clone();
+            other[place] ^= 1;
+            deliver(stream, &other);
+            deliver(stream, &card);
+        }
+        stream.start_message(&[&[0x1C], &card[..]].concat());
+        stream.power_up_alone();
+    }
+}
+
+/// Three equal blocks and one byte more, with another byte in any one place; then equal bytes of sizes around those at
+/// which a piece more begins.
+fn reader_pieces(stream: &mut FromHost) {
+    for place in 0..=3 * PIECE {
+        let mut bytes = [0x38; 3 * PIECE + 1];
+        bytes[place] = 0x39;
+        deliver(stream, &bytes);
+    }
+    for pieces in 0..=LONGEST_MESSAGE / PIECE {
+        let around = pieces * PIECE..=pieces * PIECE + 2;
+        let cut = pieces * PIECE - pieces / 2..=pieces * PIECE - pieces / 2 + 2;
+        for size in around.chain(cut).filter(|size| *size <= LONGEST_MESSAGE) {
+            deliver(stream, &vec![0x38; size]);
+        }
+    }
+    deliver(stream, &[0x38; LONGEST_MESSAGE]);
 }
 
 // Saved sets.

@@ -4,26 +4,28 @@ use crate::constants::{
     ACTED, COPY, DELIVERED, FAILED, LINE_SIZE, MESSAGE_SIZE, PACKET_SIZE, READER_ANSWER_SIZE, READER_CONTROL_SIZE,
     READER_VALUE_ANSWER, READER_VALUE_PERMANENT, READER_VALUE_SENT, REPEATED,
 };
-use crate::lent::sender::outcome;
+use crate::lent::sender::{outcome, started};
 use crate::numbers::{byte, done, front, told};
 use crate::reader::{Beep, ReaderTold, Switches};
 use crate::sender::Outcome;
 use crate::{calls, Event, Refusal};
 
-/// A reader switched on with the house defaults. A message gap is due before the first message. Its control value has
-/// [`READER_CONTROL_SIZE`].
+/// A reader switched on with the house defaults. A message gap is due before the first message, though its start says
+/// none. Its control value has [`READER_CONTROL_SIZE`].
 pub fn on(control: &mut [u8]) -> Result<(), Refusal> {
     done(calls::reader_on(control))
 }
 
 /// Power-up: permanent values are copied to present ones, locks stay; framer, sender and the last accepted packet are
-/// forgotten. So is whether the message before failed: a message gap is due before the first message after it.
+/// forgotten. So are whether the message before failed and what its last packet was: a message gap is due before the
+/// first message after it, though its start says none.
 pub fn power_up(control: &mut [u8]) -> Result<(), Refusal> {
     done(calls::reader_power_up(control))
 }
 
 /// Starts a message: it is copied to the buffer, and the first copy of its first packet is written to the copy room
-/// ([`PACKET_SIZE`]).
+/// ([`PACKET_SIZE`]). The last packet of the message before is read in the buffer, which is the reader's own also with
+/// nothing out.
 pub fn start<'a>(
     control: &mut [u8],
     message: &mut [u8; MESSAGE_SIZE],
@@ -31,8 +33,8 @@ pub fn start<'a>(
     code: u8,
     bytes: &[u8],
 ) -> Outcome<'a> {
-    let (number, value) = calls::reader_start(control, message, copy, code, bytes);
-    outcome(number, value, copy)
+    let (number, values) = calls::reader_start(control, message, copy, code, bytes);
+    started(number, values, copy)
 }
 
 /// The sender's response time-out.
@@ -97,7 +99,8 @@ pub fn save<'a>(control: &[u8], room: &'a mut [u8]) -> Result<&'a [u8], Refusal>
 }
 
 /// Reads the form of a set: permanent values, present values and locks become those of the set, and the last accepted
-/// packet is forgotten; all else stays. A form that is not right is refusal 12, before a control value that is too small.
+/// packet is forgotten; all else stays, what a start says of a gap too. A form that is not right is refusal 12, before a
+/// control value that is too small.
 pub fn load(control: &mut [u8], form: &[u8]) -> Result<(), Refusal> {
     done(calls::reader_load(control, form))
 }

@@ -36,6 +36,25 @@ fn a_message_that_fails() {
     assert_eq!(lines("reader", "S 1B 38 ; 05 D1 04 00 06 FF 20 ."), "C 06 F3 00 00 1B 38 FE B4\nF 0\n");
 }
 
+/// `I` before the copy: after a failed message, and before one that equals the last packet sent.
+#[test]
+fn a_message_gap_that_is_due() {
+    let (ack, nak) = ("04 D0 04 00 FF 28 .", "05 D1 04 00 06 FF 20 .");
+    let copy = "C 06 F3 00 00 1B 38 FE B4\n";
+    assert_eq!(lines("reader", &format!("S 1B 38 ; {ack} S 1B 38 ;")), format!("{copy}D 0\nI\n{copy}"));
+    assert_eq!(lines("reader", &format!("S 1B 38 ; {nak} S 1B 38 ;")), format!("{copy}F 0\nI\n{copy}"));
+    let empty = "C 05 F3 00 00 1B FE ED\n";
+    assert_eq!(lines("reader", &format!("S 1B 38 ; {nak} S 1B ;")), format!("{copy}F 0\nI\n{empty}"));
+    assert_eq!(lines("reader", &format!("S 1B 38 ; {ack} S 1B ;")), format!("{copy}D 0\n{empty}"));
+    // A command between them does not matter, nor a refused start; power-up forgets.
+    let acted = "G 1 0 1 0\nA 04 D0 00 00 FF 2C\n";
+    let between = "04 C5 04 00 FF 33 .";
+    assert_eq!(
+        lines("reader", &format!("S 1B 38 ; {ack} {between} S 1B 38 ; S 1B 38 ; {ack} S 1B 38 ; P S 1B 38 ;")),
+        format!("{copy}D 0\n{acted}I\n{copy}R 11\nD 0\nI\n{copy}{copy}")
+    );
+}
+
 #[test]
 fn present_values() {
     let set = "07 C6 04 00 FF 8A 08 FD 9E .";

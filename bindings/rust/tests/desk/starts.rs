@@ -17,8 +17,12 @@ fn start(size: usize) -> String {
 
 /// The copies of a message that is acknowledged at once, and that it is delivered.
 fn delivered(size: usize) -> String {
-    let message = message(size);
-    let mut pieces: Vec<&[u8]> = message.chunks(250).collect();
+    copied(message(size).chunks(250))
+}
+
+/// The same of the message of these pieces; one of no bytes has none, and one empty packet.
+fn copied<'a>(pieces: impl Iterator<Item = &'a [u8]>) -> String {
+    let mut pieces: Vec<&[u8]> = pieces.collect();
     if pieces.is_empty() {
         pieces.push(&[]);
     }
@@ -38,6 +42,18 @@ fn up_to_4096_bytes_are_sent() {
         let due = delivered(size);
         assert_eq!(due.lines().count(), pieces + 1);
         assert_eq!(lines("reader", &format!("{}{}", start(size), ACK.repeat(pieces))), due);
+    }
+}
+
+/// A piece that would equal the one before it is a byte shorter, the last one never is.
+#[test]
+fn equal_pieces_are_cut() {
+    let long: Vec<usize> = [250, 249].into_iter().cycle().take(16).chain([104]).collect();
+    for sizes in [&[250, 250][..], &[250, 249, 2], &[250, 249, 250, 1], &long] {
+        let message = vec![0x38; sizes.iter().sum()];
+        let due = copied(sizes.iter().map(|size| &message[..*size]));
+        let text = format!("S 1B {} ; {}", hex(&message), ACK.repeat(sizes.len()));
+        assert_eq!(lines("reader", &text), due, "{sizes:?}");
     }
 }
 

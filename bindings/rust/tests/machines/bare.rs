@@ -1,7 +1,7 @@
 //! The raw calls over fenced buffers, and what the safe ones told as the numbers that the raw ones give, to be
 //! compared.
 
-use motikhund::constants::{READER_VALUES, SWITCH_VALUES};
+use motikhund::constants::{READER_VALUES, START_VALUES, SWITCH_VALUES};
 use motikhund::packet::Head;
 use motikhund::{raw, Event, Found, HubTold, Outcome, ReaderTold, Refusal};
 
@@ -77,14 +77,18 @@ pub fn hub([control, line, gather, answer, message]: &mut [Fenced; 5], event: u3
     (number, values)
 }
 
-pub fn sender_start([control, buffer, copy]: &mut [Fenced; 3], code: u8, message: &[u8]) -> (u32, usize) {
-    let (control, copy, mut value) = (control.lent(), copy.lent(), JUNK);
+pub fn sender_start(
+    [control, buffer, copy]: &mut [Fenced; 3],
+    code: u8,
+    message: &[u8],
+) -> (u32, [usize; START_VALUES]) {
+    let (control, copy, mut values) = (control.lent(), copy.lent(), [JUNK; START_VALUES]);
     let (state, room, from) = (control.as_mut_ptr(), copy.as_mut_ptr(), message.as_ptr());
     let buffer = buffer.array();
     let number = unsafe {
-        raw::mk_sender_start(state, control.len(), buffer, room, copy.len(), code, from, message.len(), &mut value)
+        raw::mk_sender_start(state, control.len(), buffer, room, copy.len(), code, from, message.len(), &mut values)
     };
-    (number, value)
+    (number, values)
 }
 
 pub fn sender_hear([control, buffer, copy]: &mut [Fenced; 3], heard: u32) -> (u32, usize) {
@@ -103,14 +107,18 @@ pub fn sender_waits(control: &mut Fenced) -> u32 {
 /// Control bytes, line, kept answer, message, answer room, copy room.
 pub type Reader = [Fenced; 6];
 
-pub fn reader_start([control, _, _, message, _, copy]: &mut Reader, code: u8, bytes: &[u8]) -> (u32, usize) {
-    let (control, copy, mut value) = (control.lent(), copy.lent(), JUNK);
+pub fn reader_start(
+    [control, _, _, message, _, copy]: &mut Reader,
+    code: u8,
+    bytes: &[u8],
+) -> (u32, [usize; START_VALUES]) {
+    let (control, copy, mut values) = (control.lent(), copy.lent(), [JUNK; START_VALUES]);
     let (state, room, from) = (control.as_mut_ptr(), copy.as_mut_ptr(), bytes.as_ptr());
     let message = message.array();
     let number = unsafe {
-        raw::mk_reader_start(state, control.len(), message, room, copy.len(), code, from, bytes.len(), &mut value)
+        raw::mk_reader_start(state, control.len(), message, room, copy.len(), code, from, bytes.len(), &mut values)
     };
-    (number, value)
+    (number, values)
 }
 
 pub fn reader_time_out([control, _, _, message, _, copy]: &mut Reader) -> (u32, usize) {
@@ -221,10 +229,23 @@ pub fn of_hub(told: HubTold<'_>) -> (u32, [usize; 3]) {
     }
 }
 
+/// Of a start.
+pub fn of_start(outcome: Outcome<'_>) -> (u32, [usize; START_VALUES]) {
+    match outcome {
+        Outcome::Copy { copy, gap } => (120, [copy.len(), gap.into()]),
+        Outcome::Refused(why) => (why.number(), [0; START_VALUES]),
+        outcome => panic!("{outcome:?} of a start"),
+    }
+}
+
+/// Of what a sender heard.
 pub fn of_outcome(outcome: Outcome<'_>) -> (u32, usize) {
     match outcome {
         Outcome::Nothing => (0, 0),
-        Outcome::Copy(copy) => (120, copy.len()),
+        Outcome::Copy { copy, gap } => {
+            assert!(!gap);
+            (120, copy.len())
+        }
         Outcome::Delivered { copies } => (121, copies),
         Outcome::Failed { copies } => (122, copies),
         Outcome::Refused(why) => (why.number(), 0),

@@ -27,14 +27,16 @@ const HANDSHAKE: usize = 32;
 pub const PERMANENT: usize = 35;
 pub const LOCKS: usize = 44;
 const SWITCHES: usize = 53;
-const READERS_SENDER: usize = 57;
+pub const READERS_SENDER: usize = 57;
 const OUT_FLAG: usize = 0;
 const FAILED_FLAG: usize = 2;
-const LENGTH: usize = 3;
+const DELIVERED_FLAG: usize = 3;
+const LENGTH: usize = 4;
+const PIECE: usize = 20;
 
 /// The flags behind the framer's bytes.
 pub const HUB_FLAGS: [usize; 4] = [DEAF, SECOND, BARRED, BEGUN];
-pub const READER_FLAGS: [usize; 17] = [
+pub const READER_FLAGS: [usize; 18] = [
     DEAF,
     SECOND,
     LOCKS,
@@ -52,6 +54,7 @@ pub const READER_FLAGS: [usize; 17] = [
     SWITCHES + 3,
     READERS_SENDER + OUT_FLAG,
     READERS_SENDER + FAILED_FLAG,
+    READERS_SENDER + DELIVERED_FLAG,
 ];
 
 pub fn put(control: &mut [u8], at: usize, number: u64) {
@@ -232,6 +235,7 @@ fn set_out(sender: &mut [u8]) {
     sender[OUT_FLAG] = 1;
     sender[LENGTH..SENDER_CONTROL_SIZE].fill(0);
     sender[LENGTH] = 1;
+    sender[PIECE] = 1;
 }
 
 /// A refusal of the reader: in either half, with 9Fh at 1 too, with a message out and with none. What else the control
@@ -276,7 +280,7 @@ fn of_the_reader() {
 /// Over 4,096 bytes, one still out, or both.
 #[test]
 fn of_a_start() {
-    let refused = (Refusal::Start.number(), 0);
+    let refused = (Refusal::Start.number(), [0; START_VALUES]);
     let long = [0x38; MESSAGE_SIZE + 1];
     each(SENDER, 3, |way, mut lent, about| {
         if way > 0 {
@@ -306,7 +310,7 @@ fn of_short_rooms() {
     lends(FRAMER, (ROOM, [0; HEAD_VALUES]), |dice, lent| bare::framer(lent, event(dice)));
     lends(HUB, (ROOM, [0; HUB_VALUES]), |dice, lent| bare::hub(lent, event(dice)));
     lends(SENDER, (ROOM, 0), |dice, lent| bare::sender_hear(lent, event(dice)));
-    lends(SENDER, (ROOM, 0), |dice, lent| bare::sender_start(lent, dice.byte(), b"8"));
+    lends(SENDER, (ROOM, [0; START_VALUES]), |dice, lent| bare::sender_start(lent, dice.byte(), b"8"));
     lends(READER, (ROOM, [0; READER_VALUES]), |dice, lent| bare::reader_hear(lent, event(dice)));
     let saving = [Size::Room(READER_CONTROL_SIZE), Size::Room(SET_SIZE)];
     lends(saving, (ROOM, 0), |_, [control, room]| bare::reader_save(control, room));
@@ -316,7 +320,7 @@ fn of_short_rooms() {
         places.iter().for_each(|place| sizes[*place] = READER[*place]);
         sizes
     };
-    lends(asks(&[0, 5]), (ROOM, 0), |dice, lent| bare::reader_start(lent, dice.byte(), b"8"));
+    lends(asks(&[0, 5]), (ROOM, [0; START_VALUES]), |dice, lent| bare::reader_start(lent, dice.byte(), b"8"));
     lends(asks(&[0, 5]), (ROOM, 0), |_, lent| bare::reader_time_out(lent));
     lends(asks(&[0]), (ROOM, 0), |dice, lent| bare::reader_locked(&mut lent[0], dice.byte()));
     lends(asks(&[0]), (ROOM, 0), |dice, lent| bare::reader_value(lent, dice.byte()));

@@ -13,7 +13,7 @@ use motikhund::{packet, Heard, Refusal, Reply};
 
 use crate::bare;
 use crate::dice::Dice;
-use crate::every_byte::{due_flags, HUB_FLAGS, READER_FLAGS};
+use crate::every_byte::{due_flags, HUB_FLAGS, READERS_SENDER, READER_FLAGS};
 use crate::fenced::{Fenced, Size, FRAMER, HUB, READER, SENDER};
 use crate::notation;
 use crate::streams::{Side, Stream};
@@ -166,23 +166,43 @@ fn copied((number, value): (u32, usize)) -> usize {
     }
 }
 
+/// A message to start; most in a row are equal, as the dice are those of the size.
+fn message(dice: &mut Dice) -> (u8, Vec<u8>) {
+    let size = dice.pick(&[0, 0, 1, 1, 250, 251, 600, 4_096, 4_097]);
+    let code = if dice.chance(80) { 0x1B } else { dice.byte() };
+    (code, Dice::new(size as u64).bytes(size))
+}
+
+/// Whether a message gap is due before a message, by the sender's control bytes and its buffer before the start.
+fn gap_is_due(control: &[u8], buffer: &[u8], code: u8, message: &[u8]) -> bool {
+    let number = |at: usize| u64::from_le_bytes(control[at..at + 8].try_into().expect("eight bytes"));
+    let (length, at, size) = (number(4), number(12), number(20));
+    let kept = control[0] != 1 && control[3] == 1 && length <= 4_096 && at <= length && size == length - at;
+    let last = || &buffer[at as usize..length as usize];
+    control[2] == 1 || kept && size <= 250 && control[1] == code && last() == message
+}
+
 #[test]
 fn the_sender() {
     let mut seen = BTreeSet::new();
+    let mut gaps = BTreeSet::new();
     runs(|dice| {
         let mut twins = Twins::new(dice, SENDER);
         for _ in 0..EVENTS {
             if dice.chance(10) {
-                twins.garble(dice, &[3, 11, 19, 27], &[0, 2]);
+                twins.garble(dice, &[4, 12, 20, 28, 36], &[0, 2, 3]);
             }
             let [control, buffer, copy] = &mut twins.safe;
             let (told, taken) = if dice.chance(20) {
-                let size = dice.pick(&[0, 1, 250, 251, 600, 4_096, 4_097]);
-                let (code, message) = (dice.byte(), dice.bytes(size));
+                let (code, message) = message(dice);
+                let due = gap_is_due(control.lent(), buffer.lent(), code, &message);
                 let told = bare::sender_start(&mut twins.bare, code, &message);
                 let safe = sender::start(control.lent(), buffer.array(), copy.lent(), code, &message);
-                assert_eq!(bare::of_outcome(safe), told);
-                (told, if told.0 == 120 { size } else { 0 })
+                assert_eq!(bare::of_start(safe), told);
+                let (number, [size, gap]) = told;
+                assert_eq!(gap == 1, number == 120 && due);
+                gaps.insert((number, gap));
+                ((number, size), if number == 120 { message.len() } else { 0 })
             } else {
                 let (heard, number) = match dice.below(8) {
                     0..=3 => (Heard::Ack, 256),
@@ -203,37 +223,42 @@ fn the_sender() {
         }
     });
     assert_eq!(seen, [0, 11, 120, 121, 122, 123].into());
+    assert_eq!(gaps, [(11, 0), (120, 0), (120, 1)].into());
 }
 
 #[test]
 fn the_reader() {
     let mut seen = BTreeSet::new();
     let mut brought = BTreeSet::new();
+    let mut gaps = BTreeSet::new();
     let mut sets = BTreeSet::new();
     runs(|dice| {
         let mut stream = Stream::new(Side::Reader);
         let mut twins = Twins::new(dice, READER);
         for _ in 0..EVENTS {
             if dice.chance(1) {
-                twins.garble(dice, &[0, 10, 18, 60, 68, 76, 84], &READER_FLAGS);
+                twins.garble(dice, &[0, 10, 18, 61, 69, 77, 85, 93], &READER_FLAGS);
             }
             // How many bytes of line, kept answer, message, answer room and copy room may be written.
             let mut written = [0; 5];
-            let [control, line, answers, message, answer, copy] = &mut twins.safe;
+            let [control, line, answers, buffer, answer, copy] = &mut twins.safe;
             match dice.below(40) {
                 0 => {
-                    let size = dice.pick(&[0, 1, 250, 251, 600, 4_096, 4_097]);
-                    let (code, bytes) = (dice.byte(), dice.bytes(size));
+                    let (code, bytes) = message(dice);
+                    let due = gap_is_due(&control.lent()[READERS_SENDER..], buffer.lent(), code, &bytes);
                     let told = bare::reader_start(&mut twins.bare, code, &bytes);
-                    let safe = reader::start(control.lent(), message.array(), copy.lent(), code, &bytes);
-                    assert_eq!(bare::of_outcome(safe), told);
-                    brought.insert(told.0);
-                    written[2] = if told.0 == 120 { size } else { 0 };
-                    written[4] = copied(told);
+                    let safe = reader::start(control.lent(), buffer.array(), copy.lent(), code, &bytes);
+                    assert_eq!(bare::of_start(safe), told);
+                    let (number, [size, gap]) = told;
+                    assert_eq!(gap == 1, number == 120 && due);
+                    gaps.insert((number, gap));
+                    brought.insert(number);
+                    written[2] = if number == 120 { bytes.len() } else { 0 };
+                    written[4] = copied((number, size));
                 }
                 1 => {
                     let told = bare::reader_time_out(&mut twins.bare);
-                    let safe = reader::time_out(control.lent(), message.array(), copy.lent());
+                    let safe = reader::time_out(control.lent(), buffer.array(), copy.lent());
                     assert_eq!(bare::of_outcome(safe), told);
                     brought.insert(told.0);
                     written[4] = copied(told);
@@ -259,16 +284,16 @@ fn the_reader() {
                 _ => {
                     let event = stream.next(dice);
                     let told = bare::reader_hear(&mut twins.bare, bare::event_number(event));
-                    let (line, answers, message) = (line.array(), answers.array(), message.array());
-                    let safe = reader::hear(control.lent(), line, answers, message, answer.lent(), copy.lent(), event);
+                    let (line, answers, buffer) = (line.array(), answers.array(), buffer.array());
+                    let safe = reader::hear(control.lent(), line, answers, buffer, answer.lent(), copy.lent(), event);
                     assert_eq!(bare::of_reader(safe), told);
                     let (number, [answer, _, _, _, value, _]) = told;
                     seen.insert(number);
                     written = [LINE_SIZE, READER_ANSWER_SIZE, 0, answer, copied((number, value))];
                 }
             }
-            let [line, answers, message, answer, copy] = written;
-            twins.agree(&READER_FLAGS, [READER_CONTROL_SIZE, line, answers, message, answer, copy]);
+            let [line, answers, buffer, answer, copy] = written;
+            twins.agree(&READER_FLAGS, [READER_CONTROL_SIZE, line, answers, buffer, answer, copy]);
             let number = dice.pick(&[0x80, 0x89, 0x8A, 0x9B, 0x9C, 0x9E, 0x9F, 0xED, 0xEE, 0x00]);
             let (told, value) = bare::reader_value(&mut twins.bare, number);
             assert_eq!((told, Ok(value as u8)), (0, reader::value(twins.safe[0].lent(), number)));
@@ -279,5 +304,6 @@ fn the_reader() {
     });
     assert_eq!(seen, [0, 1, 2, 3, 4, 5, 6, 7, 8, 9, 111, 120, 121, 122, 130].into());
     assert_eq!(brought, [0, 11, 120, 122].into());
+    assert_eq!(gaps, [(11, 0), (120, 0), (120, 1)].into());
     assert_eq!(sets, [0, 12].into());
 }

@@ -8,6 +8,7 @@ mod conversions;
 mod dice;
 mod every_byte;
 mod fenced;
+mod gaps;
 mod garbage;
 mod going;
 mod messages;

@@ -7,12 +7,21 @@ use motikhund::{Event, Heard, Hub, HubTold, Outcome, Reader, ReaderTold, Refusal
 use crate::dice::Dice;
 use crate::notation::{ack, hub_ack, hub_hears, nak, packet, reader_hears, sent};
 
-/// A message carried whole from reader to hub: the pieces, and what was handed out.
-fn carried(reader: &mut Reader, hub: &mut Hub, card: &[u8]) -> (usize, Vec<u8>) {
-    let mut copy = match reader.send(0x1B, card) {
-        Outcome::Copy(copy) => copy.to_vec(),
+/// What a start brings: the copy, and whether a message gap is due before it.
+fn started(outcome: Outcome<'_>) -> (Vec<u8>, bool) {
+    match outcome {
+        Outcome::Copy { copy, gap } => (copy.to_vec(), gap),
         outcome => panic!("{outcome:?}"),
-    };
+    }
+}
+
+/// A message carried whole from reader to hub, behind a message gap where one is due: the pieces, and what was handed
+/// out.
+fn carried(reader: &mut Reader, hub: &mut Hub, card: &[u8]) -> (usize, Vec<u8>) {
+    let (mut copy, gap) = started(reader.send(0x1B, card));
+    if gap {
+        assert_eq!(hub.event(Event::MessageGap), HubTold::Nothing);
+    }
     let mut pieces = 0;
     let mut handed = None;
     loop {
@@ -83,12 +92,11 @@ fn a_message_gap_drops_what_was_gathered_and_a_character_gap_does_not() {
 fn a_sender_gives_up() {
     let mut sender = Sender::new();
     for (heard, marks) in [(Heard::TimeOut, 2), (Heard::Nak(1), 2), (Heard::Nak(6), 0)] {
-        let Outcome::Copy(first) = sender.send(0x1B, b"8") else { panic!("no copy") };
-        let mut marked = first.to_vec();
+        let (mut marked, _) = started(sender.send(0x1B, b"8"));
         marked[3] |= 1;
         marked[7] -= 1;
         for _ in 0..marks {
-            assert_eq!(sender.heard(heard), Outcome::Copy(&marked));
+            assert_eq!(sender.heard(heard), Outcome::Copy { copy: &marked, gap: false });
         }
         assert!(sender.out());
         assert_eq!(sender.heard(Heard::Nothing), Outcome::Nothing);
@@ -105,7 +113,9 @@ fn resends_are_counted_over_the_whole_message() {
     let mut outcome = sender.send(0x1B, &[0x38; 4_096]);
     for piece in 0..17 {
         for marked in 0..3 {
-            let Outcome::Copy(copy) = outcome else { panic!("{piece} {marked}: {outcome:?}") };
+            let Outcome::Copy { copy, gap } = outcome else { panic!("{piece} {marked}: {outcome:?}") };
+            // The message before failed, and only the start says so.
+            assert_eq!(gap, piece == 0 && marked == 0);
             let resend = check(copy).expect("a packet").status & 1 == 1;
             assert_eq!(resend, marked > 0);
             outcome = sender.heard(if marked < 2 { Heard::TimeOut } else { Heard::Ack });
@@ -117,7 +127,7 @@ fn resends_are_counted_over_the_whole_message() {
 #[test]
 fn a_reader_sends_and_takes_commands_at_once() {
     let mut reader = Reader::new();
-    assert!(matches!(reader.send(0x1B, b"8"), Outcome::Copy(_)));
+    assert!(matches!(reader.send(0x1B, b"8"), Outcome::Copy { .. }));
     let aim = packet(OPCODE_AIM_ON, SOURCE_HOST, 0, &[]);
     let acted = ReaderTold::Acted { beep: None, permanent: false, answer: &ack(SOURCE_READER) };
     assert_eq!(reader_hears(&mut reader, &sent(&aim)), acted);

@@ -135,7 +135,7 @@ fn of_the_version() {
 /// The version's first two numbers rise with a control value's layout: who changes this line changes them too.
 #[test]
 fn of_the_layout() {
-    let (layout, sizes, defaults) = ("0.3.", [9, 29, 35, 92], (26, 35, 53));
+    let (layout, sizes, defaults) = ("0.4.", [9, 29, 44, 101], (26, 35, 53));
     assert!(VERSION.starts_with(layout), "{VERSION}");
     assert_eq!([FRAMER_CONTROL_SIZE, HUB_CONTROL_SIZE, SENDER_CONTROL_SIZE, READER_CONTROL_SIZE], sizes);
     let (present, permanent, switches) = defaults;

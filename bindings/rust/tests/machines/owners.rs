@@ -134,7 +134,7 @@ fn they_are_values() {
     let begun = Event::Byte(4);
     assert_eq!((framer.event(begun), hub.event(begun)), (Found::Nothing, HubTold::Nothing));
     assert_eq!(reader.event(begun), ReaderTold::Nothing);
-    assert!(matches!(sender.send(0, &[]), Outcome::Copy(_)));
+    assert!(matches!(sender.send(0, &[]), Outcome::Copy { .. }));
     assert!(framer != before.0 && hub != before.1 && reader != before.2 && sender != before.3);
     assert!(format!("{hub:?}").contains("line: 514 bytes"));
     assert!(format!("{:?}", Sender::idle(true)).contains("control: [0, 0, 1, 0, "));

@@ -55,7 +55,7 @@ fn of_a_reader() {
         assert_eq!(reader_hears(&mut Reader::new(), &events(text)), told, "{text}");
         // While its sender waits, nothing goes out for 1 to 3.
         let mut waiting = Reader::new();
-        assert!(matches!(waiting.send(0x1B, b"8"), Outcome::Copy(_)));
+        assert!(matches!(waiting.send(0x1B, b"8"), Outcome::Copy { .. }));
         let answer = if cause == CAUSE_RESEND { Vec::new() } else { nak(SOURCE_READER, cause) };
         let told = ReaderTold::Refused { why, answer: &answer };
         assert_eq!(reader_hears(&mut waiting, &events(text)), told, "{text}");
@@ -68,8 +68,8 @@ fn of_a_sender() {
     assert_eq!(Sender::new().send(0x1B, &[0; 4_097]), refused);
     assert_eq!(Reader::new().send(0x1B, &[0; 4_097]), refused);
     let (mut sender, mut reader) = (Sender::new(), Reader::new());
-    assert!(matches!(sender.send(0x1B, b"8"), Outcome::Copy(_)));
-    assert!(matches!(reader.send(0x1B, b"8"), Outcome::Copy(_)));
+    assert!(matches!(sender.send(0x1B, b"8"), Outcome::Copy { .. }));
+    assert!(matches!(reader.send(0x1B, b"8"), Outcome::Copy { .. }));
     let (sender_out, reader_out) = (sender.clone(), reader.clone());
     assert_eq!(sender.send(0x1B, b"9"), refused);
     assert_eq!(reader.send(0x1B, b"9"), refused);

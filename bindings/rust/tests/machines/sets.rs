@@ -415,7 +415,7 @@ fn the_last_accepted_packet_is_forgotten() {
 #[test]
 fn all_else_stays() {
     let mut reader = Reader::new();
-    assert!(matches!(reader.send(0x1B, b"8"), Outcome::Copy(_)));
+    assert!(matches!(reader.send(0x1B, b"8"), Outcome::Copy { .. }));
     acted(&mut reader, &command(OPCODE_START_SESSION, &[]));
     let (front, rest) = (&ack(SOURCE_HOST)[..3], &ack(SOURCE_HOST)[3..]);
     assert_eq!(reader_hears(&mut reader, &sent(front)), ReaderTold::Nothing);

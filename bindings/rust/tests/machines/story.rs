@@ -49,9 +49,9 @@ fn the_reader_sends_it_again() {
     let [first, last, again] = copies();
     let answered = sent(&ack(SOURCE_HOST));
     let mut reader = Reader::new();
-    assert_eq!(reader.send(0x1B, &card()), Outcome::Copy(&first));
+    assert_eq!(reader.send(0x1B, &card()), Outcome::Copy { copy: &first, gap: false });
     assert_eq!(reader_hears(&mut reader, &answered), ReaderTold::Copy(&last));
-    assert_eq!(reader.expire(), Outcome::Copy(&again));
+    assert_eq!(reader.expire(), Outcome::Copy { copy: &again, gap: false });
     assert_eq!(reader_hears(&mut reader, &answered), ReaderTold::Delivered { copies: 1 });
     assert_eq!(reader.expire(), Outcome::Nothing);
 }
@@ -72,7 +72,7 @@ fn a_marked_copy_that_is_no_repeat_is_joined() {
 }
 
 /// One card read twice: both count where both first copies come. A lost first copy of the second looks like a resend of
-/// the first, which is why the third demand excludes equal neighbours.
+/// the first, but behind a message gap: so the reader's start says that one is due.
 #[test]
 fn two_equal_cards() {
     let [_, card, again] = copies();
@@ -82,5 +82,11 @@ fn two_equal_cards() {
     assert_eq!(hub_hears(&mut hub, &sent(&card)), whole);
     assert_eq!(hub_hears(&mut hub, &sent(&card)), whole);
     assert_eq!(hub_hears(&mut hub, &sent(&again)), HubTold::Repeated { answer: &ack });
-    assert_eq!(hub_hears(&mut hub, &sent(&card)), whole);
+    assert_eq!(hub.event(Event::MessageGap), HubTold::Nothing);
+    assert_eq!(hub_hears(&mut hub, &sent(&again)), whole);
+    let mut reader = Reader::new();
+    for gap in [false, true, true] {
+        assert_eq!(reader.send(0x1B, b"8"), Outcome::Copy { copy: &card, gap });
+        assert_eq!(reader_hears(&mut reader, &sent(&ack)), ReaderTold::Delivered { copies: 0 });
+    }
 }

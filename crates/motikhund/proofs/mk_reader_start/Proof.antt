@@ -18,8 +18,8 @@ reader-requires c κs = search needs
 start-requires : tie.Need-start-requires
 start-requires c κs = search needs
 
-outcome-value-requires : tie.Need-outcome-value-requires
-outcome-value-requires c κs = search needs
+start-values-requires : tie.Need-start-values-requires
+start-values-requires c κs = search needs
 
 refused-requires : tie.Need-refused-requires
 refused-requires c κs = search needs
@@ -34,7 +34,7 @@ same-length-2 : tie.Need-same-length-2
 same-length-2 c = search needs
 
 returns-3 : tie.Need-returns-3
-returns-3 c = reader-refuses (c .before .before .before .before .before .before .before .before .before .before .before .before .before .if1 .left) (c .before .before .before .before .before .before .before .before .before .before .before .before .if2 .left) (c .before .before .before .before .before .before .before .before .before .before .reader .ensures) (c .before .before .before .before .before .before .before .start .ensures) (c .before .before .before .outcome-value .ensures) (c .before .before .refused .ensures) (c .before .if3 .taken) (c .outcome .ensures)
+returns-3 c = reader-refuses (c .before .before .before .before .before .before .before .before .before .before .before .before .before .before .if1 .left) (c .before .before .before .before .before .before .before .before .before .before .before .before .before .if2 .left) (c .before .before .before .before .before .before .before .before .before .before .before .reader .ensures) (c .before .before .before .before .before .before .before .before .start .ensures) (c .before .before .before .start-values .ensures) (c .before .before .refused .ensures) (c .before .if3 .taken) (c .outcome .ensures)
 
 put-reader-requires : tie.Need-put-reader-requires
 put-reader-requires c κs = search needs
@@ -49,7 +49,7 @@ same-length-4 : tie.Need-same-length-4
 same-length-4 c = search needs
 
 returns-4 : tie.Need-returns-4
-returns-4 c = reader-starts (c .before .before .before .before .before .before .before .before .before .before .before .before .before .before .before .before .before .if1 .left) (c .before .before .before .before .before .before .before .before .before .before .before .before .before .before .before .before .if2 .left) (c .before .before .before .before .before .before .before .before .before .before .before .before .before .before .reader .ensures) (c .before .before .before .before .before .before .before .before .before .before .before .start .ensures) (c .before .before .before .before .before .before .before .outcome-value .ensures) (c .before .before .before .before .before .before .refused .ensures) (c .before .before .before .before .before .if3 .left) (c .before .before .before .put-reader .ensures) (c .outcome2 .ensures)
+returns-4 c = reader-starts (c .before .before .before .before .before .before .before .before .before .before .before .before .before .before .before .before .before .before .if1 .left) (c .before .before .before .before .before .before .before .before .before .before .before .before .before .before .before .before .before .if2 .left) (c .before .before .before .before .before .before .before .before .before .before .before .before .before .before .before .reader .ensures) (c .before .before .before .before .before .before .before .before .before .before .before .before .start .ensures) (c .before .before .before .before .before .before .before .start-values .ensures) (c .before .before .before .before .before .before .refused .ensures) (c .before .before .before .before .before .if3 .left) (c .before .before .before .put-reader .ensures) (c .outcome2 .ensures)
 
 pub mk-reader-start-spec : {M : Type 1} → statement M
 mk-reader-start-spec =
@@ -59,7 +59,7 @@ mk-reader-start-spec =
     returns-2
     reader-requires
     start-requires
-    outcome-value-requires
+    start-values-requires
     refused-requires
     outcome-requires
     same-length

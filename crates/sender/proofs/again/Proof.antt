@@ -1,6 +1,7 @@
 -- `sender::again` meets its contract: a marked copy, or failed. Assumes nothing.
 use native.Mathlib.Omega.{arith}
 use Rattle.sender.proofs.Answering.{again-copy, again-failed}
+use Rattle.sender.proofs.Copying.{copies-as}
 use Rattle.sender.proofs.Standing.{again-out}
 use borrow.Author.Needs.{needs}
 use Rattle.sender.proofs.again.Statement.{statement}
@@ -22,7 +23,7 @@ same-length : tie.Need-same-length
 same-length c = search needs
 
 returns : tie.Need-returns
-returns c = again-copy (c .before .before .before .before .before .before .before .before .before .before .before .pre .0) (omega arith) (c .before .before .before .before .moved .ensures) (c .before .before .present .ensures)
+returns c = again-copy (c .before .before .before .before .before .before .before .before .before .before .before .pre .0) (omega arith) (c .before .before .before .before .moved .ensures) (copies-as (c .before .before .present .ensures))
 
 failed-requires : tie.Need-failed-requires
 failed-requires c κs = search needs

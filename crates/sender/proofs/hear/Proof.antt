@@ -1,7 +1,7 @@
 -- `sender::hear` meets its contract: 13, then the answer of a sound control value. Assumes nothing.
 use native.Mathlib.Omega.{arith}
 use Rattle.sender.proofs.Answering.{hear-room, hear-out, hear-nothing}
-use Rattle.sender.proofs.Standing.{sounds-out}
+use Rattle.sender.proofs.Placing.{sounds-out}
 use borrow.Author.Needs.{needs}
 use Rattle.sender.proofs.hear.Statement.{statement}
 use Rattle.sender.proofs.hear.Tie as tie
@@ -22,7 +22,7 @@ same-length : tie.Need-same-length
 same-length c = search needs
 
 returns-2 : tie.Need-returns-2
-returns-2 c = hear-out (omega arith) (c .before .before .before .before .before .before .sound .ensures) (c .before .before .out-step .ensures)
+returns-2 c = hear-out (omega arith) (c .before .before .before .before .before .before .sound .ensures) (search needs) (c .before .before .out-step .ensures)
 
 returns-3 : tie.Need-returns-3
 returns-3 c = hear-nothing (omega arith) (c .before .sound .ensures) (c .if2 .left)

@@ -1,15 +1,12 @@
--- `sender::present` meets its contract: a cut piece, or the last one. Assumes nothing.
+-- `sender::present` meets its contract: with the more bit, or the last one. Assumes nothing.
 use native.Mathlib.Omega.{arith}
-use Rattle.sender.proofs.Copying.{present-cut, present-last}
+use Rattle.sender.proofs.Copying.{present-more, present-last}
 use borrow.Author.Needs.{needs}
 use Rattle.sender.proofs.present.Statement.{statement}
 use Rattle.sender.proofs.present.Tie as tie
 
-sub-if1 : tie.Need-sub-if1
-sub-if1 c = search needs
-
-add-cut : tie.Need-add-cut
-add-cut c = search needs
+add-end : tie.Need-add-end
+add-end c = search needs
 
 sub-copy : tie.Need-sub-copy
 sub-copy c = search needs
@@ -30,7 +27,7 @@ same-length : tie.Need-same-length
 same-length c = search needs
 
 returns : tie.Need-returns
-returns c = present-cut (c .before .before .before .before .before .before .before .before .pre .0) (omega arith) (omega arith) (c .before .before .copy .ensures)
+returns c = present-more (omega arith) (c .before .before .copy .ensures)
 
 sub-copy-2 : tie.Need-sub-copy-2
 sub-copy-2 c = search needs
@@ -48,14 +45,13 @@ same-length-2 : tie.Need-same-length-2
 same-length-2 c = search needs
 
 returns-2 : tie.Need-returns-2
-returns-2 c = present-last (c .before .before .before .before .before .before .before .before .pre .0) (omega arith) (omega arith) (c .before .before .copy2 .ensures)
+returns-2 c = present-last (omega arith) (c .before .before .copy2 .ensures)
 
 pub present-spec : {M : Type 1} → statement M
 present-spec =
     tie.close
     (tie.spec
-    sub-if1
-    add-cut
+    add-end
     sub-copy
     part-copy-start
     part-copy-end

@@ -1,5 +1,5 @@
 -- `sender::sound` meets its contract. Assumes nothing.
-use Rattle.sender.proofs.Copying.{sound-same, sound-idle}
+use Rattle.sender.proofs.Placing.{sound-same, sound-idle}
 use borrow.Author.Needs.{needs}
 use Rattle.sender.proofs.sound.Statement.{statement}
 use Rattle.sender.proofs.sound.Tie as tie

@@ -1,4 +1,4 @@
--- `sender::start` meets its contract: 13, then 11, then the message copied and its first packet. Assumes nothing.
+-- `sender::start` meets its contract: 13, then 11, then the message is begun. Assumes nothing.
 use native.Mathlib.Omega.{arith}
 use Rattle.sender.proofs.Answering.{start-room, start-long, start-waits, start-copy}
 use borrow.Author.Needs.{needs}
@@ -26,18 +26,15 @@ refused-requires-3 c κs = search needs
 returns-3 : tie.Need-returns-3
 returns-3 c = start-waits (omega arith) (omega arith) (c .before .before .sound .ensures) (c .before .if3 .taken) (c .refused3 .ensures)
 
-copy-requires : tie.Need-copy-requires
-copy-requires c κs = search needs
-
-present-requires : tie.Need-present-requires
-present-requires c κs = search needs
+begin-requires : tie.Need-begin-requires
+begin-requires c κs = search needs
 
 same-length : tie.Need-same-length
 same-length c = search needs
 
 returns-4 : tie.Need-returns-4
-returns-4 c = let b = c .before .before .before .before .before .before .before .before in
-    start-copy (omega arith) (omega arith) (search needs) (b .before .sound .ensures) (b .if3 .left) (c .before .before .before .before .before .before .copy .ensures) (c .before .before .present .ensures)
+returns-4 c = let b = c .before .before .before .before .before in
+    start-copy (omega arith) (omega arith) (b .before .sound .ensures) (b .if3 .left) (c .before .before .begin .ensures)
 
 pub start-spec : {M : Type 1} → statement M
 start-spec =
@@ -50,7 +47,6 @@ start-spec =
     sound-requires
     refused-requires-3
     returns-3
-    copy-requires
-    present-requires
+    begin-requires
     same-length
     returns-4)

@@ -112,7 +112,7 @@ impl End for Reader {
                 lines.numbers(b'G', [on.scanning, on.session, on.aim, on.led].map(usize::from));
                 lines.answer(answer);
             }
-            ReaderTold::Copy(copy) => sent(Outcome::Copy(copy), lines),
+            ReaderTold::Copy(copy) => sent(Outcome::Copy { copy, gap: false }, lines),
             ReaderTold::Delivered { copies } => sent(Outcome::Delivered { copies }, lines),
             ReaderTold::Failed { copies } => sent(Outcome::Failed { copies }, lines),
         }
@@ -123,7 +123,12 @@ impl End for Reader {
 fn sent(outcome: Outcome, lines: &mut Lines) {
     match outcome {
         Outcome::Nothing => {}
-        Outcome::Copy(copy) => lines.bytes(b'C', copy),
+        Outcome::Copy { copy, gap } => {
+            if gap {
+                lines.bytes(b'I', []);
+            }
+            lines.bytes(b'C', copy);
+        }
         Outcome::Delivered { copies } => lines.numbers(b'D', [copies]),
         Outcome::Failed { copies } => lines.numbers(b'F', [copies]),
         Outcome::Refused(why) => lines.refusal(why),

@@ -58,11 +58,26 @@ part-number-end-4 c = search needs
 number-requires-4 : tie.Need-number-requires-4
 number-requires-4 c κs = search needs
 
-shared-slice-read-t28 : tie.Need-shared-slice-read-t28
-shared-slice-read-t28 c = search needs
+sub-number-5 : tie.Need-sub-number-5
+sub-number-5 c = search needs
+
+part-number-start-5 : tie.Need-part-number-start-5
+part-number-start-5 c = search needs
+
+part-number-end-5 : tie.Need-part-number-end-5
+part-number-end-5 c = search needs
+
+number-requires-5 : tie.Need-number-requires-5
+number-requires-5 c κs = search needs
+
+shared-slice-read-t33 : tie.Need-shared-slice-read-t33
+shared-slice-read-t33 c = search needs
+
+shared-slice-read-t36 : tie.Need-shared-slice-read-t36
+shared-slice-read-t36 c = search needs
 
 returns : tie.Need-returns
-returns c = sender-in (c .before .before .before .before .before .before .before .number .ensures) (c .before .before .before .before .before .number2 .ensures) (c .before .before .before .number3 .ensures) (c .before .number4 .ensures)
+returns c = sender-in (c .before .before .before .before .before .before .before .before .before .before .number .ensures) (c .before .before .before .before .before .before .before .before .number2 .ensures) (c .before .before .before .before .before .before .number3 .ensures) (c .before .before .before .before .number4 .ensures) (c .before .before .number5 .ensures)
 
 pub sender-spec : {M : Type 1} → statement M
 sender-spec =
@@ -86,5 +101,10 @@ sender-spec =
     part-number-start-4
     part-number-end-4
     number-requires-4
-    shared-slice-read-t28
+    sub-number-5
+    part-number-start-5
+    part-number-end-5
+    number-requires-5
+    shared-slice-read-t33
+    shared-slice-read-t36
     returns)

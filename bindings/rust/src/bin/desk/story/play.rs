@@ -31,7 +31,11 @@ pub fn play(card: &[u8]) -> Played {
     let mut played = Played::default();
     let (mut reader, mut hub) = (Reader::new(), Hub::new());
     let mut answers = 0;
-    let mut copy = copied(reader.send(CODE_TYPE, card));
+    let (mut copy, gap) = copied(reader.send(CODE_TYPE, card));
+    if gap {
+        // Nothing is sent until the hub has heard it.
+        let _ = hub.event(Event::MessageGap);
+    }
     while let Some(packet) = copy.take() {
         let mut answer = Vec::new();
         for event in events(&packet) {
@@ -48,7 +52,7 @@ pub fn play(card: &[u8]) -> Played {
         answers += 1;
         let lost = answers == LOST;
         if lost {
-            copy = copied(reader.expire());
+            (copy, _) = copied(reader.expire());
         } else {
             for event in events(&answer) {
                 match reader.event(event) {
@@ -68,10 +72,11 @@ fn events(packet: &[u8]) -> impl Iterator<Item = Event> + '_ {
     packet.iter().map(|byte| Event::Byte(*byte)).chain([Event::CharacterGap])
 }
 
-fn copied(outcome: Outcome) -> Option<Vec<u8>> {
+/// The copy that is to be sent, if there is one, and whether a message gap is due before it.
+fn copied(outcome: Outcome) -> (Option<Vec<u8>>, bool) {
     match outcome {
-        Outcome::Copy(copy) => Some(copy.to_vec()),
-        _ => None,
+        Outcome::Copy { copy, gap } => (Some(copy.to_vec()), gap),
+        _ => (None, false),
     }
 }
 
