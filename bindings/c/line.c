@@ -987,7 +987,8 @@ static void acks_that_do_not_count(void)
 }
 
 // A hub that was stopped is late: it takes the packet and sends nothing. It remembers for a message gap, and no longer.
-// Between two answers it is silent too.
+// Between two answers it is silent too, also where their packets came in one lump. Of a lump with a wrong checksum it
+// ignores the rest.
 static void late_hub(void)
 {
     int64_t gap = message_gap(TIME_OUT);
@@ -1019,6 +1020,11 @@ static void late_hub(void)
     hear_line(&the_hub, "A " HUB_ACK);
     hear_line(&the_hub, "R 3");
     hear_line(&the_hub, "A " HUB_NAK_1);
+    put_text(&the_hub, "06 F3 00 00 1B 38 FE B5" PIECE);
+    hear_packet(&the_hub, HUB_NAK_1, GAP, SECOND);
+    hear_line(&the_hub, "R 2");
+    hear_line(&the_hub, "A " HUB_NAK_1);
+    hear_nothing(&the_hub, 4 * GAP);
     kill(the_hub.pid, SIGTERM);
     expect_status(&the_hub, 0);
 }

@@ -10,8 +10,9 @@
 //
 // You bring the serial port and the clock. What happens on the line goes in as events, one at a time: a byte, a
 // character gap (a silence that ends a packet) or a message gap (a longer one, at which a hub forgets all that came
-// before). What is to be sent stands in a buffer of yours, and a number says what happened: 0 for nothing, 1 to 13
-// for a refusal, 100 and above for all else. docs/PROTOCOL.md says what each of them means on the line.
+// before). A hub also takes what a serial port hands over as a block, all its bytes in one call. What is to be sent
+// stands in a buffer of yours, and a number says what happened: 0 for nothing, 1 to 15 for a refusal, 100 and above for
+// all else. docs/PROTOCOL.md says what each of them means on the line.
 //
 // Most firmware needs only the last part of this file: the types mk_hub, mk_reader, mk_framer and mk_sender hold
 // all buffers, and short functions work on them. bindings/c/example.c is a whole program. To build from the root of
@@ -44,6 +45,10 @@
 // the main loop is inside a call, and an event that mk_go_on left must be taken before any later one. It becomes right
 // where the interrupt gives an event to mk_go_on only if none is queued and the main loop is in no call of this
 // machine, and queues it else. That is the first way again, with a queue that is empty most of the time.
+//
+// Where DMA receives, what it has filled is such a queue: the main loop gives it to the hub as a block. No gap is among
+// the bytes of a block, so it ends where the line falls idle, and the gap is given behind it. A block of 4,096 bytes
+// costs what its bytes cost one by one, less the calls between them.
 //
 // Timing and duties (more in docs/PROTOCOL.md §15)
 //
@@ -89,8 +94,8 @@
 // with each change of what stands where in a control value, the patch with every other landing. So whoever stores a
 // control value stores MK_VERSION_NUMBER with it, and puts it back only where MK_VERSION_NUMBER / 100 is the same;
 // else it is initialised anew.
-#define MK_VERSION "0.4.0"
-#define MK_VERSION_NUMBER 400
+#define MK_VERSION "0.4.1"
+#define MK_VERSION_NUMBER 401
 
 #ifdef __cplusplus
 #define MK_ASSERT(truth, why) static_assert(truth, why)
@@ -121,7 +126,8 @@ enum {
     MK_HUB_ANSWER_SIZE = 7,       // a hub's answer room
     MK_READER_ANSWER_SIZE = 25,   // a reader's longest answer: a PARAM_SEND with all nine parameters
     MK_SET_SIZE = 30,             // the longest form of a saved set: all nine parameters are locked
-    MK_DATA_SIZE = 251            // the most data in a packet
+    MK_DATA_SIZE = 251,           // the most data in a packet
+    MK_BLOCK_SIZE = 4096          // the most bytes in a block; more of them are MK_LONG
 };
 
 // Events on a line.
@@ -153,7 +159,8 @@ enum {
     MK_BARRED = 10,   // hub: another type inside a message, or too long; then all decode data to a message gap; NAK 6
     MK_START = 11,    // sender: a message over 4,096 bytes, or one still out; no answer
     MK_FORM = 12,     // reader: bytes that are not the form of a set, or one with a value not allowed; no answer
-    MK_ROOM = 13      // something is lent too small: nothing is changed, and the event is not taken; no answer
+    MK_ROOM = 13,     // something is lent too small: nothing is changed, and the event is not taken; no answer
+    MK_LONG = 15      // more bytes than a call takes: nothing is changed, and none is taken; no answer
 };
 
 // What a call tells that is no refusal.
@@ -313,6 +320,14 @@ enum {
     MK_HUB_VALUE_COUNT = 2,  // MK_MESSAGE: so many bytes of the message room
     MK_HUB_VALUES = 3
 };
+// Of mk_hub_hear_block:
+enum {
+    MK_BLOCK_VALUE_ANSWER = 0, // so many bytes of the answer room are to be sent: all answers, one after the other
+    MK_BLOCK_VALUE_CODE = 1,   // MK_MESSAGE: its code type
+    MK_BLOCK_VALUE_COUNT = 2,  // MK_MESSAGE: so many bytes of the message room
+    MK_BLOCK_VALUE_TAKEN = 3,  // so many bytes were taken; those behind them are to be given again
+    MK_BLOCK_VALUES = 4
+};
 // Of mk_sender_start and mk_reader_start:
 enum {
     MK_START_VALUE_SIZE = 0, // MK_COPY: so many bytes of the room are to be sent
@@ -351,11 +366,11 @@ enum {
 // its last packet until the next start. Whoever writes into that one with nothing out can only make a start tell a
 // message gap that is not due, or none where one is. What goes out to you (answer, copy, the hub's message) is yours.
 //
-// With MK_ROOM, MK_START and MK_FORM nothing is changed but the numbers told (head, size, value, values), which are 0;
-// they are 0 too where a result has none. With any other refusal of an event only its answer, the byte that came in the
-// line, and the control value are written: the packet begun has ended, MK_LENGTH and MK_CHECKSUM make deaf, MK_BARRED
-// bars the hub with nothing gathered, and all else in it stays as it was read (so a flag's byte that was neither 0 nor
-// 1 is written as 0).
+// With MK_ROOM, MK_START, MK_FORM and MK_LONG nothing is changed but the numbers told (head, size, value, values),
+// which are 0; they are 0 too where a result has none. With any other refusal of an event only its answer, the byte
+// that came in the line, and the control value are written: the packet begun has ended, MK_LENGTH and MK_CHECKSUM make
+// deaf, MK_BARRED bars the hub with nothing gathered, and all else in it stays as it was read (so a flag's byte that
+// was neither 0 nor 1 is written as 0).
 //
 // An event above MK_MESSAGE_GAP changes nothing at all and tells MK_NOTHING, with values of 0. So does a reply above
 // MK_REPLY_ACK. MK_ROOM is tested before, as at every call.
@@ -405,6 +420,20 @@ uint32_t mk_hub_on(uint8_t *control, size_t control_len);
 uint32_t mk_hub_hear(uint8_t *control, size_t control_len, uint8_t line[MK_LINE_SIZE], uint8_t gather[MK_MESSAGE_SIZE],
     uint8_t *answer, size_t answer_len, uint8_t *message, size_t message_len, uint32_t event,
     size_t values[MK_HUB_VALUES]);
+
+// A block of up to MK_BLOCK_SIZE bytes with no gap among them, or of none, at the hub: it does what mk_hub_hear does
+// with these bytes one by one. All answers stand one after the other at the front of the answer room. It leaves at once
+// where a message is whole, and where fewer than MK_HUB_ANSWER_SIZE bytes of the answer room are left; that is looked
+// at before each byte, whatever becomes of it. The values are MK_BLOCK_VALUE_.., the last of them how many bytes it
+// took. Give those behind them in a next call, the rooms emptied: it takes one at least where there is one, so that
+// ends. However the bytes are cut into calls, messages, answers in a row and the state behind them are the same.
+//
+// MK_MESSAGE; MK_LENGTH or MK_CHECKSUM, behind which the framer is deaf, so that the bytes up to the block's end are
+// taken and ignored; else MK_NOTHING. A block tells one of them at most: pieces added, repeats and the refusals from
+// MK_SOURCE on are answered on the line, and not told. Or, in this order, MK_ROOM, also for no bytes; MK_LONG.
+uint32_t mk_hub_hear_block(uint8_t *control, size_t control_len, uint8_t line[MK_LINE_SIZE],
+    uint8_t gather[MK_MESSAGE_SIZE], uint8_t *answer, size_t answer_len, uint8_t *message, size_t message_len,
+    const uint8_t *bytes, size_t bytes_len, size_t values[MK_BLOCK_VALUES]);
 
 // Makes a sender's control value (MK_SENDER_CONTROL_SIZE): nothing out, no packet before it; failed says whether the
 // message before failed, so that a message gap is due. MK_NOTHING, or MK_ROOM.
@@ -523,6 +552,41 @@ static inline mk_hub_told mk_hub_event(mk_hub *hub, uint32_t event)
     told.answer = values[MK_HUB_VALUE_ANSWER];
     told.code = (uint8_t)values[MK_HUB_VALUE_CODE];
     told.count = values[MK_HUB_VALUE_COUNT];
+    return told;
+}
+
+typedef struct {
+    uint32_t number; // MK_MESSAGE, MK_LENGTH, MK_CHECKSUM or MK_NOTHING
+    size_t answer;   // so many bytes of hub.answer are to be sent
+    uint8_t code;    // MK_MESSAGE: its code type
+    size_t count;    // MK_MESSAGE: so many bytes of hub.message
+    size_t taken;    // so many bytes were taken; give those behind them in a next call
+} mk_hub_block_told;
+MK_ASSERT(sizeof(mk_hub_block_told) == 40, "mk_hub_block_told");
+
+// A block of bytes with no gap among them, as a serial port or DMA hands it over. hub.answer has room for one answer,
+// so it leaves behind each: send it, then give what was not taken. It takes one byte at least where there is one, and
+// no more than MK_BLOCK_SIZE at once, so nothing is refused and a loop over any buffer ends:
+//
+//     for (size_t at = 0; at < size;) {
+//         mk_hub_block_told told = mk_hub_block(&hub, bytes + at, size - at);
+//         at += told.taken;
+//         if (told.answer > 0) uart_send(hub.answer, told.answer);
+//         if (told.number == MK_MESSAGE) file_scores(told.code, hub.message, told.count);
+//     }
+//
+// Who wants several answers in one go lends mk_hub_hear_block an answer room of as many times MK_HUB_ANSWER_SIZE.
+static inline mk_hub_block_told mk_hub_block(mk_hub *hub, const uint8_t *bytes, size_t size)
+{
+    const size_t most = MK_BLOCK_SIZE;
+    size_t values[MK_BLOCK_VALUES];
+    mk_hub_block_told told;
+    told.number = mk_hub_hear_block(hub->control, sizeof hub->control, hub->line, hub->gather, hub->answer,
+        sizeof hub->answer, hub->message, sizeof hub->message, bytes, size < most ? size : most, values);
+    told.answer = values[MK_BLOCK_VALUE_ANSWER];
+    told.code = (uint8_t)values[MK_BLOCK_VALUE_CODE];
+    told.count = values[MK_BLOCK_VALUE_COUNT];
+    told.taken = values[MK_BLOCK_VALUE_TAKEN];
     return told;
 }
 

@@ -1,7 +1,7 @@
 // Tests of all that is refused, through motikhund.h: which refusal, its answer, and every lent byte afterwards.
-// On 11 to 13 no lent byte changes but the values told, which are 0 (12 is in sets.c). On 1 to 10 these change and no
-// other: the values, the answer at the front of its room, the byte that came in its place in the line, and the control
-// value as the rules have it (docs/PROTOCOL.md §6).
+// On 11 to 15 no lent byte changes but the values told, which are 0 (12 is in sets.c, 15 in blocks.c). On 1 to 10 these
+// change and no other: the values, the answer at the front of its room, the byte that came in its place in the line,
+// and the control value as the rules have it (docs/PROTOCOL.md §6).
 #include "ground.h"
 
 // ---- the ground before a call: garbage of several kinds everywhere
@@ -58,6 +58,14 @@ static uint32_t hub_hear_in(const size_t *size)
 {
     return mk_hub_hear(room.hub, size[0], room.line, room.gather, room.hub_answer, size[1], room.message, size[2],
         room_event, room.values);
+}
+
+// Of no bytes, of some, of as many as are allowed, and of one more: the rooms are looked at first.
+static uint32_t hub_hear_block_in(const size_t *size)
+{
+    static const uint16_t counts[] = {0, 1, 300, MK_BLOCK_SIZE, MK_BLOCK_SIZE + 1};
+    return mk_hub_hear_block(room.hub, size[0], room.line, room.gather, room.hub_answer, size[1], room.message, size[2],
+        room.bytes, counts[room_event % COUNT(counts)], room.values);
 }
 
 static uint32_t sender_idle_in(const size_t *size)
@@ -149,6 +157,8 @@ static const asking askings[] = {
     {"mk_framer_hear", framer_hear_in, {MK_FRAMER_CONTROL_SIZE, MK_PACKET_SIZE, 0}, MK_HEAD_VALUES},
     {"mk_hub_on", hub_on_in, {MK_HUB_CONTROL_SIZE, 0, 0}, 0},
     {"mk_hub_hear", hub_hear_in, {MK_HUB_CONTROL_SIZE, MK_HUB_ANSWER_SIZE, MK_MESSAGE_SIZE}, MK_HUB_VALUES},
+    {"mk_hub_hear_block", hub_hear_block_in, {MK_HUB_CONTROL_SIZE, MK_HUB_ANSWER_SIZE, MK_MESSAGE_SIZE},
+        MK_BLOCK_VALUES},
     {"mk_sender_idle", sender_idle_in, {MK_SENDER_CONTROL_SIZE, 0, 0}, 0},
     {"mk_sender_start", sender_start_in, {MK_SENDER_CONTROL_SIZE, MK_PACKET_SIZE, 0}, MK_START_VALUES},
     {"mk_sender_hear", sender_hear_in, {MK_SENDER_CONTROL_SIZE, MK_PACKET_SIZE, 0}, 1},

@@ -7,6 +7,8 @@
 //
 // - A silence is what poll has seen. The clock is read before poll, and only a poll that found nothing counts: bytes
 //   that waited while this program was not running are heard before any gap or time-out is told.
+// - So no gap is among the bytes of one read, and the hub takes them as a block. It leaves that behind each answer,
+//   which goes out before the rest is taken.
 // - An answer goes out in time or not at all. The hub reckons from the last moment at which nothing had come, so that
 //   it also knows that it is late where it was stopped.
 // - A reader hears nothing while it sends, and what came in one lump with an ACK is no answer to the next copy.
@@ -66,7 +68,7 @@ static const char help[] =
     "\n"
     "LINES (bytes and values in hex, numbers in decimal)\n"
     "\n"
-    "    R n              refusal number n\n"
+    "    R n              refusal number n; the hub tells 1, 2 and 3, and only answers the others\n"
     "    A bb ..          an answer goes out\n"
     "    M tt bb ..       hub: a message is handed out: its code type, then its bytes\n"
     "    B d p c          reader: a beep: duration, pitch, number of beeps\n"
@@ -428,15 +430,24 @@ static void message_line(uint8_t code, size_t count)
     putchar('\n');
 }
 
-static void hub_takes(uint32_t event)
+static void hub_tells(mk_hub_told told)
 {
-    mk_hub_told told = mk_hub_event(&hub, event);
     refusal_line(told.number);
     if (told.number == MK_MESSAGE)
         message_line(told.code, told.count);
     if (told.answer > 0 && hub_answers(told.answer))
         bytes_line('A', hub.answer, told.answer);
     flush_lines();
+}
+
+// What one read gave: a call for each answer in it, and for what is left.
+static void hub_takes(const uint8_t *bytes, size_t count)
+{
+    for (size_t at = 0; at < count;) {
+        mk_hub_block_told told = mk_hub_block(&hub, bytes + at, count - at);
+        at += told.taken;
+        hub_tells((mk_hub_told){told.number, told.answer, told.code, told.count});
+    }
 }
 
 static int64_t hub_waits_until(void)
@@ -451,12 +462,11 @@ static void run_hub(void)
     while (!stopped) {
         int64_t until = line.message_gap ? now() + TICK : hub_waits_until();
         size_t count = hear(bytes, sizeof bytes, until, NULL);
-        for (size_t i = 0; i < count; i++)
-            hub_takes(bytes[i]);
+        hub_takes(bytes, count);
         if (grown(character_gap(), &line.character_gap))
-            hub_takes(MK_CHARACTER_GAP);
+            hub_tells(mk_hub_event(&hub, MK_CHARACTER_GAP));
         if (grown(message_gap(asked.time_out), &line.message_gap))
-            hub_takes(MK_MESSAGE_GAP);
+            hub_tells(mk_hub_event(&hub, MK_MESSAGE_GAP));
     }
 }
 

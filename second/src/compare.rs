@@ -312,7 +312,7 @@ fn shortened(line: &[u8]) -> String {
 // No difference.
 
 /// Number, meaning, and whether each program, in the order of `SIDES`, can reach it.
-const REFUSALS: [(usize, &str, [bool; 3]); 13] = [
+const REFUSALS: [(usize, &str, [bool; 3]); 14] = [
     (1, "length below 4", [true; 3]),
     (2, "checksum wrong", [true; 3]),
     (3, "cut by a gap", [true; 3]),
@@ -326,6 +326,7 @@ const REFUSALS: [(usize, &str, [bool; 3]); 13] = [
     (11, "sender: too long, or one still out", [false, false, true]),
     (12, "form of a saved set not right", [false, false, true]),
     (13, "lent room too small", [false, true, true]),
+    (15, "more bytes than a call takes", [false, true, false]),
 ];
 
 fn report(tally: &Tally, took: Duration) {

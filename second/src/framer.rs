@@ -16,7 +16,7 @@ pub enum Framed {
     Refused(Refusal),
 }
 
-#[derive(Default)]
+#[derive(Default, PartialEq, Eq, Debug)]
 pub struct Framer {
     begun: Vec<u8>,
     deaf: bool,
@@ -41,6 +41,26 @@ impl Framer {
             return Framed::Nothing;
         }
         // Either the length byte is too low, or the last checksum byte has come.
+        self.judged()
+    }
+
+    /// Takes bytes that come without a gap, up to the one at which there is something to tell. Gives how many these
+    /// were: all of them, where nothing is told.
+    pub fn take_stretch(&mut self, bytes: &[u8]) -> (usize, Framed) {
+        let Some(&length) = self.begun.first().or(bytes.first()).filter(|_| !self.deaf) else {
+            return (bytes.len(), Framed::Nothing);
+        };
+        let length = usize::from(length);
+        // Too low a length is judged at its own byte, all else at the last checksum byte.
+        let whole = if length < HEADER { 1 } else { length + CHECKSUM };
+        let missing = whole - self.begun.len();
+        let taken = missing.min(bytes.len());
+        self.begun.extend_from_slice(&bytes[..taken]);
+        (taken, if taken < missing { Framed::Nothing } else { self.judged() })
+    }
+
+    /// Judges what was begun, and ends it.
+    fn judged(&mut self) -> Framed {
         let judged = check(&self.begun);
         self.begun.clear();
         match judged {

@@ -9,6 +9,9 @@ pub const ANSWER_ROOM: usize = 7;
 /// The longest message, its code type not counted.
 pub const LONGEST_MESSAGE: usize = 4_096;
 
+/// The most bytes that a block may have.
+pub const LONGEST_BLOCK: usize = 4_096;
+
 #[derive(Clone, PartialEq, Eq, Debug)]
 pub struct Message {
     pub code_type: u8,
@@ -44,7 +47,36 @@ impl HubStep {
     }
 }
 
-#[derive(Default)]
+/// What a block came to.
+#[derive(Clone, Default, PartialEq, Eq, Debug)]
+pub struct Block {
+    /// So many bytes of its front were taken.
+    pub taken: usize,
+    /// All that goes out, one after the other.
+    pub answers: Vec<u8>,
+    /// The message at which it was left.
+    pub message: Option<Message>,
+    /// 1 or 2, of which there can be only one, as the framer is deaf behind it. 4 to 7 and 10 are answered and no more.
+    pub refusal: Option<Refusal>,
+}
+
+impl Block {
+    /// Whether a further byte is to be taken, if there is one: no message is complete, and any answer has room.
+    fn goes_on(&self, room: usize) -> bool {
+        self.message.is_none() && room - self.answers.len() >= ANSWER_ROOM
+    }
+
+    fn add(&mut self, step: HubStep) {
+        self.answers.extend(step.answer().unwrap_or_default());
+        match step.done {
+            Done::Refused(refusal @ (Refusal::Length | Refusal::Checksum)) => self.refusal = Some(refusal),
+            Done::HandedOut(message) => self.message = Some(message),
+            _ => {}
+        }
+    }
+}
+
+#[derive(Default, PartialEq, Eq, Debug)]
 pub struct Hub {
     framer: Framer,
     /// The last accepted packet, without mark and checksum.
@@ -63,20 +95,44 @@ impl Hub {
         self.take(event)
     }
 
+    /// Bytes with no gap among them, with an answer room of this size: each does what it would do alone. What is not
+    /// taken is the caller's to give again, be it only what a deaf framer would ignore.
+    pub fn take_block(&mut self, bytes: &[u8], room: usize) -> Result<Block, Refusal> {
+        if room < ANSWER_ROOM {
+            return Err(Refusal::Room);
+        }
+        if bytes.len() > LONGEST_BLOCK {
+            return Err(Refusal::Long);
+        }
+        let mut block = Block::default();
+        // Inside a stretch nothing is answered and no message ends, so a test before each is one before each byte.
+        while block.taken < bytes.len() && block.goes_on(room) {
+            let (taken, framed) = self.framer.take_stretch(&bytes[block.taken..]);
+            block.taken += taken;
+            block.add(self.framed(framed));
+        }
+        Ok(block)
+    }
+
     pub fn take(&mut self, event: LineEvent) -> HubStep {
-        let step = match self.framer.take(event) {
+        let framed = self.framer.take(event);
+        let step = self.framed(framed);
+        if event == LineEvent::MessageGap {
+            // Only after the refusal 3 that may have been due.
+            *self = Hub::default();
+        }
+        step
+    }
+
+    fn framed(&mut self, framed: Framed) -> HubStep {
+        match framed {
             Framed::Nothing => HubStep { packet: None, done: Done::Nothing },
             Framed::Refused(refusal) => HubStep { packet: None, done: Done::Refused(refusal) },
             Framed::Packet(packet) => {
                 let done = self.packet(&packet);
                 HubStep { packet: Some(packet), done }
             }
-        };
-        if event == LineEvent::MessageGap {
-            // Only after the refusal 3 that may have been due.
-            *self = Hub::default();
         }
-        step
     }
 
     fn packet(&mut self, packet: &Packet) -> Done {

@@ -18,6 +18,7 @@ pub mod streams;
 pub mod table;
 #[cfg(test)]
 mod tests;
+mod watch_blocks;
 mod watch_cards;
 mod watch_hub;
 mod watch_reader;

@@ -1,7 +1,8 @@
 //! A lossy line between the proved programs. This program is the wire: it starts messages at the reader, carries copies
 //! and answers, loses or spoils some, and checks from outside what the demand on the line promises. Many messages equal
 //! the packet before them, and many have equal pieces; the hub gets a message gap where the reader tells that one is
-//! due, and nowhere else. There are two such lines at the same time, one for each of the programs that are a hub.
+//! due, and nowhere else. There are two such lines at the same time, one for each of the programs that are a hub; on
+//! that of desk most copies come in blocks.
 
 use std::collections::VecDeque;
 use std::io::{BufRead, BufReader, Write};
@@ -160,6 +161,9 @@ struct Counts {
     third_copies: u64,
     copies_lost: u64,
     copies_spoiled: u64,
+    /// Only desk knows blocks.
+    copies_in_blocks: Option<u64>,
+    copies_in_several_blocks: Option<u64>,
     answers: u64,
     answers_lost: u64,
     answers_spoiled: u64,
@@ -256,6 +260,7 @@ pub fn line(programs: &Programs, seed: u64, messages: u64) -> std::io::Result<bo
 }
 
 fn one_line(programs: &Programs, hub: Side, seed: u64, messages: u64) -> std::io::Result<Ended> {
+    let blocks = (hub == Side::DeskHub).then_some(0);
     let mut wire = Wire {
         hub: Coupled::start(programs, hub)?,
         reader: Coupled::start(programs, Side::DeskReader)?,
@@ -263,7 +268,7 @@ fn one_line(programs: &Programs, hub: Side, seed: u64, messages: u64) -> std::io
         weather: WEATHERS[0],
         previous: None,
         before: None,
-        counts: Counts::default(),
+        counts: Counts { copies_in_blocks: blocks, copies_in_several_blocks: blocks, ..Counts::default() },
     };
     let ran = wire.run(messages).and_then(|()| wire.hub.close()).and_then(|()| wire.reader.close());
     wire.hub.stop();
@@ -398,7 +403,8 @@ impl Wire {
         let first_of_equal = out.equal && out.tries.is_empty();
         self.counts.equal_first_copy_bad += u64::from(first_of_equal && going != Fate::Whole);
         let arrived = after(&mut self.dice, going, copy);
-        let lines = self.hub.tell(&with_gap(&arrived))?;
+        let text = self.arrival(&arrived);
+        let lines = self.hub.tell(&text)?;
         let Some(answer) = out.hub_said(&lines)? else {
             out.tries.push(going == Fate::Whole);
             return Ok(Vec::new());
@@ -412,6 +418,28 @@ impl Wire {
         out.acked = coming == Fate::Whole && answer[1] == CMD_ACK;
         let arrived = after(&mut self.dice, coming, &answer);
         self.reader.tell(&with_gap(&arrived))
+    }
+
+    /// What arrives of a copy, with its gap: at desk often in a block, or cut into two or three.
+    fn arrival(&mut self, arrived: &[u8]) -> Vec<u8> {
+        if self.hub.side != Side::DeskHub || self.dice.chance(30) {
+            return with_gap(arrived);
+        }
+        let blocks = self.dice.pick(&[1, 1, 2, 3]);
+        self.counts.copies_in_blocks.iter_mut().for_each(|count| *count += 1);
+        self.counts.copies_in_several_blocks.iter_mut().for_each(|count| *count += u64::from(blocks > 1));
+        let mut text = Vec::new();
+        let mut left = arrived;
+        for number in 1..=blocks {
+            let size = if number < blocks { self.dice.between(0, left.len()) } else { left.len() };
+            let (block, rest) = left.split_at(size);
+            text.push(b'[');
+            push_bytes(block, &mut text);
+            text.extend_from_slice(b" ]");
+            left = rest;
+        }
+        text.extend_from_slice(b" .\n");
+        text
     }
 
     fn delivered(&mut self, out: Outgoing, marked: usize) -> Result<(), Breach> {
@@ -488,6 +516,8 @@ impl Outgoing {
                 ("R", None) if matches!(number_of(line)?, 1..=3) => {}
                 ("A", None) => answer = Some(bytes_of(line)?),
                 ("M", None) => self.hand_out(&bytes_of(line)?)?,
+                // How many bytes a block call took.
+                ("L", _) => {}
                 _ => return Err(format!("the hub said too much: {line:?}")),
             }
         }
@@ -514,8 +544,9 @@ impl Outgoing {
 }
 
 impl Counts {
-    fn rows(&self) -> [(u64, &'static str); 21] {
-        [
+    /// Nothing stands for what cannot be.
+    fn rows(&self) -> Vec<(Option<u64>, &'static str)> {
+        let all = [
             (self.messages, "messages"),
             (self.delivered, "delivered"),
             (self.failed, "failed"),
@@ -537,17 +568,23 @@ impl Counts {
             (self.cut_pieces, "pieces cut"),
             (self.cut_pieces_again, "cut pieces resent"),
             (self.most_cut, "messages delivered with eight pieces cut"),
-        ]
+        ];
+        let in_blocks = [
+            (self.copies_in_blocks, "copies that came in blocks"),
+            (self.copies_in_several_blocks, "of these, in several"),
+        ];
+        all.map(|(count, name)| (Some(count), name)).into_iter().chain(in_blocks).collect()
     }
 
     fn missed(&self) -> impl Iterator<Item = &'static str> {
-        self.rows().into_iter().filter(|(count, _)| *count == 0).map(|(_, name)| name)
+        self.rows().into_iter().filter(|(count, _)| *count == Some(0)).map(|(_, name)| name)
     }
 
     /// The counts of both lines beside each other.
     fn print(one: &Counts, other: &Counts) {
+        let cell = |count: Option<u64>| count.map_or("-".to_string(), |count| count.to_string());
         for ((one, name), (other, _)) in one.rows().into_iter().zip(other.rows()) {
-            println!("{one:>12}{other:>12}  {name}");
+            println!("{:>12}{:>12}  {name}", cell(one), cell(other));
         }
     }
 }

@@ -3,10 +3,13 @@
 use std::io::{ErrorKind, Read, Write};
 
 use crate::framer::LineEvent;
-use crate::hub::{Done, Hub, HubStep, LONGEST_MESSAGE};
-use crate::packet::LONGEST;
+use crate::hub::{Block, Done, Hub, HubStep, Message, LONGEST_MESSAGE};
+use crate::packet::{Refusal, LONGEST};
 use crate::reader::{Reader, Step};
 use crate::sender::End;
+
+/// The answer room of a block call, until a `K` sets another.
+pub const BLOCK_ROOM: usize = 20;
 
 #[derive(Clone, Copy, PartialEq, Eq, Debug)]
 pub enum Side {
@@ -33,6 +36,8 @@ enum Token {
     Save,
     /// The form of a saved set, or at most the first 4,098 bytes of what is far too long for one.
     Load(Vec<u8>),
+    /// Bytes for one call, or at most the first 4,098 of too many.
+    Block(Vec<u8>),
 }
 
 #[derive(Clone, PartialEq, Eq, Debug)]
@@ -42,7 +47,7 @@ enum Scanned {
     Wrong,
 }
 
-/// A token with bytes, of which the `;` has not come.
+/// A token with bytes, of which the last sign has not come: `]` behind a `[`, else `;`.
 struct Open {
     letter: u8,
     bytes: Vec<u8>,
@@ -90,7 +95,7 @@ impl Tokeniser {
                 self.open = open;
                 Scanned::Nothing
             }
-            (b';', Some(open)) => open.ended(),
+            (sign, Some(open)) if sign == open.end() => open.ended(),
             (_, Some(_)) => Scanned::Wrong,
             (b'.', None) => Scanned::Token(Token::Line(LineEvent::Gap)),
             (b'/', None) => Scanned::Token(Token::Line(LineEvent::MessageGap)),
@@ -104,7 +109,7 @@ impl Tokeniser {
             (Side::DeskReader, b'P') => Scanned::Token(Token::PowerUp),
             (Side::DeskReader, b'U') => Scanned::Token(Token::Show),
             (Side::DeskReader, b'W') => Scanned::Token(Token::Save),
-            (Side::DeskReader, b'S' | b'L') | (Side::DeskReader | Side::DeskHub, b'K') => {
+            (Side::DeskReader, b'S' | b'L') | (Side::DeskHub, b'[') | (Side::DeskReader | Side::DeskHub, b'K') => {
                 self.open = Some(Open { letter, bytes: Vec::new() });
                 Scanned::Nothing
             }
@@ -112,19 +117,28 @@ impl Tokeniser {
         }
     }
 
-    /// A token without its `;` does nothing, but a lone digit is wrong at the end too.
+    /// A token without its last sign does nothing, but a lone digit is wrong at the end too.
     fn ends_right(&self) -> bool {
         self.digit.is_none()
     }
 }
 
 impl Open {
-    /// How many pairs are right is judged at the `;` only: without one they do nothing, however many.
+    fn end(&self) -> u8 {
+        if self.letter == b'[' {
+            b']'
+        } else {
+            b';'
+        }
+    }
+
+    /// How many pairs are right is judged at the last sign only: without it they do nothing, however many.
     fn ended(self) -> Scanned {
         match (self.letter, &self.bytes[..]) {
             (b'K', [high, low]) => Scanned::Token(Token::Room(usize::from(*high) * 256 + usize::from(*low))),
             (b'S', [_, ..]) => Scanned::Token(Token::Start(self.bytes)),
             (b'L', _) => Scanned::Token(Token::Load(self.bytes)),
+            (b'[', _) => Scanned::Token(Token::Block(self.bytes)),
             _ => Scanned::Wrong,
         }
     }
@@ -143,8 +157,8 @@ pub struct Listing {
     side: Side,
     tokeniser: Tokeniser,
     machine: Machine,
-    /// The size of the answer room.
-    room: usize,
+    /// The size of the answer room, where a `K` has set it.
+    room: Option<usize>,
     /// How many characters have been looked at.
     read: u64,
     stopped: bool,
@@ -156,7 +170,7 @@ impl Listing {
             Side::Hub | Side::DeskHub => Machine::Hub(Hub::default()),
             Side::DeskReader => Machine::Reader(Reader::new()),
         };
-        Listing { side, tokeniser: Tokeniser::new(side), machine, room: LONGEST, read: 0, stopped: false }
+        Listing { side, tokeniser: Tokeniser::new(side), machine, room: None, read: 0, stopped: false }
     }
 
     /// Acts on the characters and appends the lines due.
@@ -191,16 +205,15 @@ impl Listing {
     }
 
     fn act(&mut self, token: &Token, lines: &mut Vec<u8>) {
+        let room = self.room.unwrap_or(LONGEST);
         match (&mut self.machine, token) {
             // The room is the caller's: a power-up leaves it as it is.
-            (_, Token::Room(room)) => self.room = *room,
-            (Machine::Hub(hub), Token::Line(event)) => {
-                print_hub(self.side, &hub.take_in_room(*event, self.room), lines)
-            }
+            (_, Token::Room(room)) => self.room = Some(*room),
+            (Machine::Hub(hub), Token::Line(event)) => print_hub(self.side, &hub.take_in_room(*event, room), lines),
+            (Machine::Hub(hub), Token::Block(bytes)) => give_block(hub, bytes, self.room.unwrap_or(BLOCK_ROOM), lines),
             (Machine::Hub(_), _) => unreachable!("no such token on the hub's side"),
-            (Machine::Reader(reader), Token::Line(event)) => {
-                print_reader(&reader.take_in_room(*event, self.room), lines)
-            }
+            (Machine::Reader(_), Token::Block(_)) => unreachable!("no such token on the reader's side"),
+            (Machine::Reader(reader), Token::Line(event)) => print_reader(&reader.take_in_room(*event, room), lines),
             // These two lend the sender's room alone, and that has full size.
             (Machine::Reader(reader), Token::TimeOut) => print_reader(&reader.time_out(), lines),
             (Machine::Reader(reader), Token::Start(message)) => {
@@ -220,15 +233,47 @@ impl Listing {
 fn print_hub(side: Side, step: &HubStep, lines: &mut Vec<u8>) {
     match &step.done {
         Done::Refused(refusal) if side == Side::DeskHub => push_number_line(b'R', &[refusal.number()], lines),
-        Done::HandedOut(message) => {
-            lines.push(b'M');
-            push_bytes(&[message.code_type], lines);
-            push_bytes(&message.bytes, lines);
-            lines.push(b'\n');
-        }
+        Done::HandedOut(message) => push_message(message, lines),
         _ => {}
     }
     push_byte_line(b'A', step.answer().as_deref(), lines);
+}
+
+/// Gives the bytes in one call, and those not taken in further ones, unless a call is refused.
+fn give_block(hub: &mut Hub, bytes: &[u8], room: usize, lines: &mut Vec<u8>) {
+    let mut left = bytes;
+    loop {
+        let called = hub.take_block(left, room);
+        print_block(&called, lines);
+        // One that is not refused takes a byte at least, where there is one.
+        let taken = called.map_or(left.len(), |block| block.taken);
+        left = &left[taken..];
+        if left.is_empty() {
+            return;
+        }
+    }
+}
+
+fn print_block(called: &Result<Block, Refusal>, lines: &mut Vec<u8>) {
+    let block = match called {
+        Err(refusal) => return push_number_line(b'R', &[refusal.number()], lines),
+        Ok(block) => block,
+    };
+    if let Some(refusal) = block.refusal {
+        push_number_line(b'R', &[refusal.number()], lines);
+    }
+    if let Some(message) = &block.message {
+        push_message(message, lines);
+    }
+    push_byte_line(b'A', Some(&block.answers[..]).filter(|answers| !answers.is_empty()), lines);
+    push_number_line(b'L', &[block.taken], lines);
+}
+
+fn push_message(message: &Message, lines: &mut Vec<u8>) {
+    lines.push(b'M');
+    push_bytes(&[message.code_type], lines);
+    push_bytes(&message.bytes, lines);
+    lines.push(b'\n');
 }
 
 fn print_reader(step: &Step, lines: &mut Vec<u8>) {

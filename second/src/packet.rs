@@ -66,6 +66,7 @@ pub enum Refusal {
     Sender = 11,
     Form = 12,
     Room = 13,
+    Long = 15,
 }
 
 impl Refusal {

@@ -18,7 +18,7 @@ pub fn shrink(text: &[u8], differs: &mut dyn FnMut(&[u8]) -> bool) -> Vec<u8> {
 
 /// The stream in parts that end with a gap or one of the reader's own events.
 fn split_runs(text: &[u8]) -> Vec<Vec<u8>> {
-    text.split_inclusive(|character| b"./;TPUW".contains(character)).map(<[u8]>::to_vec).collect()
+    text.split_inclusive(|character| b"./;]TPUW".contains(character)).map(<[u8]>::to_vec).collect()
 }
 
 /// The stream in pairs of digits, single characters, and whole tokens with bytes: half of one is mostly wrong.
@@ -26,7 +26,8 @@ fn split_tokens(text: &[u8]) -> Vec<Vec<u8>> {
     let mut tokens: Vec<Vec<u8>> = Vec::new();
     let mut open = false;
     for piece in split_pieces(text) {
-        let (opens, ends) = ([b"S", b"K", b"L"].iter().any(|letter| piece == *letter), piece == b";");
+        let opens = [b"S", b"K", b"L", b"["].iter().any(|letter| piece == *letter);
+        let ends = piece == b";" || piece == b"]";
         match tokens.last_mut() {
             Some(token) if open => token.extend(piece),
             _ => tokens.push(piece),

@@ -3,7 +3,7 @@
 use crate::packet::Refusal;
 
 /// One place for each refusal number, 0 unused.
-const NUMBERS: usize = 14;
+const NUMBERS: usize = 16;
 
 /// A sight's name with its number of members.
 pub type Name = (&'static str, usize);

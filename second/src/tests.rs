@@ -1,5 +1,7 @@
 //! The packets of docs/PROTOCOL.md (§2, §17), of the published guides, and the readings of the open points.
 
+mod blocks;
+
 use crate::form::{self, Fault};
 use crate::framer::{Framed, Framer, LineEvent};
 use crate::listing::{output, Side};
@@ -1004,7 +1006,6 @@ fn a_room_has_two_pairs() {
         "K S",
         "k",
         "K 00 06 ]",
-        "[",
         "]",
         "V",
         "Q",
@@ -1087,11 +1088,15 @@ fn a_difference_is_shrunk() {
         output(Side::DeskReader, text).ends_with(b"L\n")
     });
     assert_eq!(small, taken.trim().as_bytes());
+    let small = crate::shrink::shrink(b"03 . [ 06 F3 ] . [ 05 03 04 ] [ ] 05 . [ 06 ] 03", &mut |text| {
+        output(Side::DeskHub, text).windows(4).any(|lines| lines == b"L 3\n")
+    });
+    assert_eq!(small, b"[ 05 03 04 ]");
 }
 
 #[test]
 fn every_character_is_tried_in_every_state() {
-    for (side, states) in [(Side::Hub, 2), (Side::DeskHub, 10), (Side::DeskReader, 18)] {
+    for (side, states) in [(Side::Hub, 2), (Side::DeskHub, 18), (Side::DeskReader, 18)] {
         let every = crate::streams::every_text(side);
         for character in 0..=255 {
             assert!(every.iter().filter(|text| text.contains(&character)).count() >= states, "{character}");

@@ -4,6 +4,7 @@ use crate::framer::LineEvent;
 use crate::hub::{Done, Hub, HubStep, LONGEST_MESSAGE};
 use crate::packet::{Packet, Refusal, LONGEST, MORE, PERMANENT};
 use crate::sights::{bit_alone, Name, Sights};
+use crate::watch_blocks::{BlockWatch, Call, BLOCK_NAMES};
 use crate::watch_room::{FramerLook, RoomWatch, ROOM_NAMES};
 
 const NAMES: [Name; 32] = [
@@ -47,10 +48,10 @@ const DESK_NAMES: [Name; 2] = [("13 while barred", 1), ("13 inside a message", 1
 /// What can be seen of the hub before an event.
 #[derive(Clone, Copy)]
 pub struct HubLook {
-    barred: bool,
+    pub barred: bool,
     /// Bytes gathered, where a message is open.
-    open: Option<usize>,
-    framer: FramerLook,
+    pub open: Option<usize>,
+    pub framer: FramerLook,
 }
 
 impl HubLook {
@@ -72,11 +73,12 @@ pub struct HubWatch {
     repeated: bool,
     joined: bool,
     room: RoomWatch,
+    blocks: BlockWatch,
 }
 
 impl HubWatch {
     pub fn new(desk: bool) -> HubWatch {
-        let desks = ROOM_NAMES.iter().chain(&DESK_NAMES).filter(|_| desk);
+        let desks = ROOM_NAMES.iter().chain(&DESK_NAMES).chain(&BLOCK_NAMES).filter(|_| desk);
         HubWatch {
             sights: Sights::new(NAMES.iter().chain(desks)),
             last: None,
@@ -85,6 +87,7 @@ impl HubWatch {
             repeated: false,
             joined: false,
             room: RoomWatch::default(),
+            blocks: BlockWatch::default(),
         }
     }
 
@@ -110,6 +113,18 @@ impl HubWatch {
         if let Some(packet) = &step.packet {
             self.packet(before, packet, &step.done);
         }
+    }
+
+    /// An event outside of a block, in desk's streams.
+    pub fn see_alone(&mut self, before: HubLook, event: LineEvent, step: &HubStep) {
+        if step.done != Done::Refused(Refusal::Room) {
+            self.blocks.alone(before.framer, event, &mut self.sights);
+        }
+    }
+
+    /// A call of a block. What its bytes came to has been seen as events.
+    pub fn see_call(&mut self, call: &Call, first: bool) {
+        self.blocks.call(call, first, &mut self.sights);
     }
 
     fn no_room(&mut self, before: HubLook, event: LineEvent) {

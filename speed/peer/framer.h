@@ -74,6 +74,19 @@ static inline uint8_t framer_edge(peer_framer *framer, uint32_t event)
     return framer->last == 0 ? framer_begin(framer, (uint8_t)event) : framer_end(framer, (uint8_t)event);
 }
 
+// Moves those of the bytes that belong to the packet begun, but for its last one. Gives how many they were.
+static inline size_t framer_move(peer_framer *framer, const uint8_t *bytes, size_t count)
+{
+    size_t missing = framer->last - framer->at;
+    if (count > missing) {
+        count = missing;
+    }
+    memcpy(framer->line + framer->at, bytes, count);
+    framer->sum += peer_sum(bytes, count);
+    framer->at += (uint32_t)count;
+    return count;
+}
+
 // The packet that came.
 static inline const uint8_t *framer_packet(const peer_framer *framer)
 {

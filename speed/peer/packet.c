@@ -11,6 +11,11 @@ static inline uint16_t sum(const uint8_t *bytes, size_t count)
     return total;
 }
 
+uint16_t peer_sum(const uint8_t *bytes, size_t count)
+{
+    return sum(bytes, count);
+}
+
 peer_checked peer_check(const uint8_t *bytes, size_t count)
 {
     if (count == 0) {

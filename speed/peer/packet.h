@@ -51,6 +51,9 @@ enum {
     CAUSE_DENIED = 6
 };
 
+// Of the bytes of a packet, or of some of them.
+uint16_t peer_sum(const uint8_t *bytes, size_t count);
+
 // Puts the checksum behind a body that stands there with its length. Gives the packet's size.
 size_t peer_seal(uint8_t *packet);
 

@@ -4,7 +4,8 @@
 //
 // The shape is that of bindings/c/motikhund.h: an event goes in as a number, what it brought comes back in a small
 // struct, and what is to be sent or filed stands in a buffer of the machine. All buffers are the machine's own, so no
-// event is ever refused for want of room. Packets that are built and saved sets go into a room that is lent.
+// event is ever refused for want of room. Packets that are built, saved sets and the answers of a block go into a room
+// that is lent.
 #ifndef PEER_H
 #define PEER_H
 
@@ -17,6 +18,7 @@ enum {
     PEER_LINE_SIZE = 2 * PEER_PACKET_SIZE,
     PEER_DATA_SIZE = 251,
     PEER_MESSAGE_SIZE = 4096,
+    PEER_BLOCK_SIZE = 4096,
     PEER_HUB_ANSWER_SIZE = 7,
     PEER_READER_ANSWER_SIZE = 25,
     PEER_PARAMETERS = 9,
@@ -51,6 +53,7 @@ enum {
     PEER_START = 11,
     PEER_FORM = 12,
     PEER_ROOM = 13,
+    PEER_LONG = 15,
     PEER_PACKET = 100,
     PEER_WRITTEN = 101,
     PEER_ADDED = 110,
@@ -120,6 +123,19 @@ typedef struct {
 
 void peer_hub_init(peer_hub *hub);
 peer_hub_told peer_hub_event(peer_hub *hub, uint32_t event);
+
+typedef struct {
+    uint8_t number;   // PEER_MESSAGE, PEER_LENGTH, PEER_CHECKSUM, PEER_NOTHING; PEER_ROOM and PEER_LONG took nothing
+    uint8_t code;     // PEER_MESSAGE: its code type
+    uint16_t answers; // so many bytes of the room are to be sent
+    uint16_t count;   // PEER_MESSAGE: so many bytes of hub.message
+    uint16_t taken;   // so many bytes of the block
+} peer_block_told;
+
+// Up to PEER_BLOCK_SIZE bytes with no gap among them (4/14), each of which does what it would do as an event. The
+// answers stand one behind the other in the room, which has PEER_HUB_ANSWER_SIZE at least. It leaves at a message, and
+// where the rest of the room might be too small for an answer: what is not taken then is to be given again.
+peer_block_told peer_hub_block(peer_hub *hub, const uint8_t *bytes, size_t size, uint8_t *answers, size_t room);
 
 // ---- the sender (§10)
 

@@ -20,6 +20,9 @@ pub const FAILED: u32 = 122;
 pub const ACTED: u32 = 130;
 
 pub const MESSAGE: usize = 4_096;
+/// The longest block, and the room for answers that one is lent where it is timed, as in passes.c.
+pub const BLOCK: usize = 4_096;
+pub const BLOCK_ANSWERS: usize = 64;
 pub const PACKET: usize = 257;
 pub const HUB_ANSWER: usize = 7;
 pub const READER_ANSWER: usize = 25;
@@ -32,9 +35,11 @@ pub struct Told<'a> {
     /// The head that the check found; a message's code type; a beep, and 1 where a permanent value changed; 1 where a
     /// message gap is due before a copy; how often a message was resent.
     pub values: [u8; 4],
-    /// What goes on the line: an answer, a copy, a packet that was built. Or a saved set.
+    /// What goes on the line: an answer, those of a block, a copy, a packet that was built. Or a saved set.
     pub packet: &'a [u8],
     pub message: &'a [u8],
+    /// How many bytes a block call took.
+    pub taken: usize,
 }
 
 /// A packet's fields, to build it.
@@ -57,6 +62,11 @@ pub trait Machine {
     fn new() -> Self;
     fn switch_on(&mut self);
     fn event(&mut self, event: Event) -> Told<'_>;
+}
+
+/// A hub that takes blocks, with its answers in a room that is lent.
+pub trait Blocks: Machine {
+    fn block<'a>(&'a mut self, bytes: &[u8], room: &'a mut [u8]) -> Told<'a>;
 }
 
 pub trait Sender {

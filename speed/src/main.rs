@@ -101,7 +101,7 @@ fn run(directory: &str, amount: Amount, emulated: bool) -> Result<(), String> {
 }
 
 fn measured(row: &TimedRow) -> Measured {
-    Measured { name: row.name, events: row.events, bar: row.bar, took: row.took() }
+    Measured { name: row.name, events: row.events, bars: row.bars.clone(), took: row.took() }
 }
 
 fn counted(volume: usize) -> Result<Vec<Measured>, String> {
@@ -109,8 +109,8 @@ fn counted(volume: usize) -> Result<Vec<Measured>, String> {
     let rows = work::rows(&inputs)?;
     rows.into_iter()
         .map(|row| {
-            let (name, events, bar) = (row.name, row.events, row.bar);
-            Ok(Measured { name, events, bar, took: row.counts()? })
+            let (name, events, bars) = (row.name, row.events, row.bars.clone());
+            Ok(Measured { name, events, bars, took: row.counts()? })
         })
         .collect()
 }

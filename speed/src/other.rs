@@ -102,6 +102,28 @@ impl calls::Machine for Hub {
                 values: [joined.code_type, 0, 0, 0],
                 packet,
                 message: put(&mut self.message, &joined.bytes),
+                taken: 0,
+            },
+        }
+    }
+}
+
+impl calls::Blocks for Hub {
+    #[inline(never)]
+    fn block<'a>(&'a mut self, bytes: &[u8], room: &'a mut [u8]) -> Told<'a> {
+        let block = match self.hub.take_block(bytes, room.len()) {
+            Ok(block) => block,
+            Err(refusal) => return refused(refusal),
+        };
+        let (packet, taken) = (put(room, &block.answers), block.taken);
+        match block.message {
+            None => Told { number: block.refusal.map_or(0, number), packet, taken, ..Told::default() },
+            Some(joined) => Told {
+                number: HANDED_OUT,
+                values: [joined.code_type, 0, 0, 0],
+                packet,
+                message: put(&mut self.message, &joined.bytes),
+                taken,
             },
         }
     }
@@ -173,7 +195,7 @@ impl Reader {
         let [duration, pitch, count] = step.beep.unwrap_or_default();
         let values = [duration, pitch, count, step.changed.into()];
         let packet = step.answer.map_or(&[][..], |answer| put(&mut self.answer, &answer));
-        Told { number, values, packet, message: &[] }
+        Told { number, values, packet, ..Told::default() }
     }
 
     pub fn save<'a>(&self, room: &'a mut [u8; SET]) -> Told<'a> {

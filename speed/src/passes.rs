@@ -6,7 +6,7 @@ use std::arch::asm;
 
 use second::packet::{CHECKSUM, DECODE_DATA, HEADER, READER};
 
-use crate::calls::{Event, Fields, Machine, Packets, Sender, Told, PACKET};
+use crate::calls::{Blocks, Event, Fields, Machine, Packets, Sender, Told, BLOCK, BLOCK_ANSWERS, PACKET};
 use crate::streams::{Errand, Stream};
 
 pub trait Work {
@@ -20,7 +20,7 @@ pub trait Work {
 
 /// Of a machine: whether anything was told. Only then there is something to send or to file, by a call.
 #[inline(always)]
-fn look_first(Told { number, values, packet, message }: Told) -> usize {
+fn look_first(Told { number, values, packet, message, .. }: Told) -> usize {
     if number == 0 {
         return 0;
     }
@@ -52,6 +52,52 @@ impl<M: Machine> Work for Events<'_, M> {
         let mut events = Vec::new();
         self.0.events(|event| events.push(event));
         format!("{:02X?}", events[call])
+    }
+}
+
+/// The same events at a hub in blocks: each part in one, or in several where it is longer than one may be; what a call
+/// leaves is given again. Then the gap.
+pub struct InBlocks<'a, M> {
+    stream: &'a Stream,
+    machine: M,
+    /// For the answers of a block.
+    room: [u8; BLOCK_ANSWERS],
+}
+
+impl<'a, M: Blocks> InBlocks<'a, M> {
+    pub fn new(stream: &'a Stream) -> InBlocks<'a, M> {
+        InBlocks { stream, machine: M::new(), room: [0; BLOCK_ANSWERS] }
+    }
+}
+
+impl<M: Blocks> Work for InBlocks<'_, M> {
+    fn pass(&mut self, mut see: impl FnMut(Told)) {
+        let InBlocks { stream, machine, room } = self;
+        machine.switch_on();
+        for (part, gap) in stream.parts() {
+            let mut left = part;
+            while !left.is_empty() {
+                let told = machine.block(&left[..left.len().min(BLOCK)], room);
+                let taken = told.taken;
+                assert!(taken > 0, "a block call that takes nothing");
+                see(told);
+                left = &left[taken..];
+            }
+            see(machine.event(gap));
+        }
+    }
+
+    /// At the number, at the answers, and at how many bytes were taken: the same as in passes.c.
+    #[inline(always)]
+    fn look(told: Told) -> usize {
+        if told.number == 0 && told.packet.is_empty() {
+            return 0;
+        }
+        told.taken + heed(told.number, told.values, told.packet, told.message)
+    }
+
+    fn describe(&self, call: usize) -> String {
+        format!("call {call} of a stream in blocks")
     }
 }
 
@@ -154,14 +200,32 @@ fn bare_copy_and_sum(room: &mut [u8], bytes: &[u8]) -> u16 {
     sum(room)
 }
 
+extern "C" {
+    fn plain_sum(bytes: *const u8, count: usize) -> u16;
+}
+
+/// Without vector instructions (plain.c).
+fn plain(bytes: &[u8]) -> usize {
+    // SAFETY: the pointer has its own length.
+    unsafe { plain_sum(bytes.as_ptr(), bytes.len()) }.into()
+}
+
 /// Sums the same bytes, part by part.
 pub fn bare_pass(stream: &Stream) -> usize {
     stream.parts().map(|(part, _)| usize::from(bare_sum(part))).sum()
 }
 
+pub fn plain_pass(stream: &Stream) -> usize {
+    stream.parts().map(|(part, _)| plain(part)).sum()
+}
+
 /// Sums the bodies of packets, as the check does.
 pub fn bare_check(stream: &Stream) -> usize {
     stream.parts().map(|(packet, _)| usize::from(bare_sum(body_of(packet)))).sum()
+}
+
+pub fn plain_check(stream: &Stream) -> usize {
+    stream.parts().map(|(packet, _)| plain(body_of(packet))).sum()
 }
 
 /// Copies bodies and sums them there, as building does.
@@ -191,6 +255,14 @@ impl Machine for Nothing {
     fn event(&mut self, event: Event) -> Told<'_> {
         ignored(event.number() as usize);
         Told::default()
+    }
+}
+
+impl Blocks for Nothing {
+    #[inline(always)]
+    fn block<'a>(&'a mut self, bytes: &[u8], _: &'a mut [u8]) -> Told<'a> {
+        ignored(bytes.as_ptr() as usize);
+        Told { taken: bytes.len(), ..Told::default() }
     }
 }
 

@@ -1,6 +1,6 @@
 //! Every call of the library, and the peer's, on inputs that reach their paths, for the measure of their stack.
 
-use motikhund::constants::{FRAMER_CONTROL_SIZE, HEAD_VALUES, HUB_CONTROL_SIZE, HUB_VALUES, LINE_SIZE};
+use motikhund::constants::{BLOCK_VALUES, FRAMER_CONTROL_SIZE, HEAD_VALUES, HUB_CONTROL_SIZE, HUB_VALUES, LINE_SIZE};
 use motikhund::constants::{READER_CONTROL_SIZE, READER_VALUES, SENDER_CONTROL_SIZE, SWITCH_VALUES};
 use motikhund::raw::*;
 use second::form;
@@ -9,10 +9,10 @@ use second::reader::ALL;
 use second::sender::PIECE;
 use second::table::{Table, ROWS};
 
-use crate::calls::{
-    Event, Machine, Sender, ACK, HUB_ANSWER, MESSAGE, NAK_RESEND, PACKET, READER_ANSWER, SET, TIME_OUT,
-};
+use crate::calls::{Event, Machine, Sender, ACK, BLOCK, BLOCK_ANSWERS, HUB_ANSWER, MESSAGE, NAK_RESEND, PACKET};
+use crate::calls::{READER_ANSWER, SET, TIME_OUT};
 use crate::peer::{self, *};
+use crate::proved::RawHub;
 use crate::stack::{calibrate, measured, Depths, Tells};
 use crate::streams::{self, Dice, Stream};
 
@@ -92,7 +92,7 @@ macro_rules! tells {
     };
 }
 
-tells!(Checked, Built, CHubTold, CSent, CReaderTold);
+tells!(Checked, Built, CHubTold, CBlockTold, CSent, CReaderTold);
 
 fn packets(depths: &mut Depths, stream: &Stream) {
     let (mut room, mut head, mut size) = ([0; PACKET], [0; HEAD_VALUES], 0);
@@ -166,6 +166,64 @@ fn hub(depths: &mut Depths, stream: &Stream) {
         );
         measured!(depths, peer_hub_event(&mut *peer.0, event.number()));
     });
+}
+
+/// A hub and the peer's, each call of which is lent the same room.
+struct Hubs {
+    proved: RawHub,
+    peer: peer::Hub,
+    answers: [u8; BLOCK_ANSWERS],
+}
+
+impl Hubs {
+    /// One call of each. Gives how many bytes were taken.
+    fn block(&mut self, depths: &mut Depths, bytes: &[u8], room: usize) -> usize {
+        let Hubs { proved: RawHub { control, line, gather, message, .. }, peer, answers } = self;
+        let mut values = [0; BLOCK_VALUES];
+        measured!(
+            depths,
+            mk_hub_hear_block(
+                control.as_mut_ptr(),
+                control.len(),
+                &mut *line,
+                &mut *gather,
+                answers.as_mut_ptr(),
+                room,
+                message.as_mut_ptr(),
+                message.len(),
+                bytes.as_ptr(),
+                bytes.len(),
+                &mut values,
+            )
+        );
+        measured!(depths, peer_hub_block(&mut *peer.0, bytes.as_ptr(), bytes.len(), answers.as_mut_ptr(), room));
+        let [.., taken] = values;
+        taken
+    }
+
+    /// A gap is no part of a block.
+    fn gap(&mut self, gap: Event) {
+        self.proved.event(gap);
+        self.peer.event(gap);
+    }
+}
+
+/// Each part in blocks of several sizes, in rooms for one answer or many; and blocks that are refused.
+fn hub_blocks(depths: &mut Depths, stream: &Stream) {
+    let mut hubs = Hubs { proved: RawHub::new(), peer: peer::Hub::new(), answers: [0; BLOCK_ANSWERS] };
+    for (room, size) in [(BLOCK_ANSWERS, BLOCK), (HUB_ANSWER, BLOCK), (HUB_ANSWER, 1), (BLOCK_ANSWERS, 100)] {
+        for (part, gap) in stream.parts() {
+            let mut left = part;
+            while !left.is_empty() {
+                let taken = hubs.block(depths, &left[..left.len().min(size)], room);
+                left = &left[taken..];
+            }
+            hubs.gap(gap);
+        }
+    }
+    hubs.block(depths, &[], HUB_ANSWER);
+    hubs.block(depths, &[0; BLOCK + 1], HUB_ANSWER);
+    hubs.block(depths, &[0], HUB_ANSWER - 1);
 }
 
 /// Sizes of messages of equal bytes, and what a sender hears while they are out: four are delivered, of which one has
@@ -386,6 +444,9 @@ pub fn depths() -> Result<Depths, String> {
     packets(&mut depths, &line);
     framer(&mut depths, &line);
     hub(&mut depths, &line);
+    hub_blocks(&mut depths, &line);
+    // All of a message in few calls, with many answers to each.
+    hub_blocks(&mut depths, &line.joined(MESSAGE.div_ceil(PIECE)));
     sender(&mut depths);
     reader(&mut depths, &from_host());
     Ok(depths)

@@ -79,6 +79,15 @@ pub struct CHubTold {
 }
 
 #[repr(C)]
+pub struct CBlockTold {
+    pub number: u8,
+    code: u8,
+    answers: u16,
+    count: u16,
+    taken: u16,
+}
+
+#[repr(C)]
 pub struct CSent {
     pub number: u8,
     gap: bool,
@@ -107,6 +116,7 @@ extern "C" {
     ) -> Built;
     fn peer_hub_init(hub: *mut CHub);
     pub fn peer_hub_event(hub: *mut CHub, event: u32) -> CHubTold;
+    pub fn peer_hub_block(hub: *mut CHub, bytes: *const u8, size: usize, answers: *mut u8, room: usize) -> CBlockTold;
     fn peer_sender_init(sender: *mut CSender);
     pub fn peer_sender_send(sender: *mut CSender, code: u8, bytes: *const u8, count: usize) -> CSent;
     pub fn peer_sender_heard(sender: *mut CSender, heard: u32) -> CSent;
@@ -192,6 +202,20 @@ impl calls::Machine for Hub {
             values: [code, 0, 0, 0],
             packet: front(&self.0.answer, answer.into()),
             message: front(&self.0.message, count.into()),
+            taken: 0,
+        }
+    }
+}
+
+impl calls::Blocks for Hub {
+    fn block<'a>(&'a mut self, bytes: &[u8], room: &'a mut [u8]) -> Told<'a> {
+        let told = unsafe { peer_hub_block(&mut *self.0, bytes.as_ptr(), bytes.len(), room.as_mut_ptr(), room.len()) };
+        Told {
+            number: told.number.into(),
+            values: [told.code, 0, 0, 0],
+            packet: &room[..told.answers.into()],
+            message: &self.0.message[..told.count.into()],
+            taken: told.taken.into(),
         }
     }
 }
@@ -202,7 +226,7 @@ fn sent(sender: &CSender, CSent { number, gap, value }: CSent) -> Told<'_> {
     match number.into() {
         calls::COPY => {
             let packet = front(&sender.copy, value.into());
-            Told { number: calls::COPY, values: [gap.into(), 0, 0, 0], packet, message: &[] }
+            Told { number: calls::COPY, values: [gap.into(), 0, 0, 0], packet, ..Told::default() }
         }
         number => Told { number, values: [value as u8, 0, 0, 0], ..Told::default() },
     }
@@ -256,7 +280,7 @@ impl calls::Machine for Reader {
             number: number.into(),
             values: [duration, pitch, count, changed.into()],
             packet: front(&self.0.answer, answer.into()),
-            message: &[],
+            ..Told::default()
         }
     }
 }

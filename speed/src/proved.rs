@@ -1,14 +1,15 @@
 //! The proved library through its crate's own types, as a firmware in Rust uses it: whatever short way these take is
-//! timed too. Only packets are here through the raw calls as well, as a firmware in C makes them.
+//! timed too. Packets are here through the raw calls as well, as a firmware in C makes them, and blocks through these
+//! alone, as they lend a room for the answers.
 
 use std::mem::MaybeUninit;
 
-use motikhund::constants::HEAD_VALUES;
+use motikhund::constants::{BLOCK_VALUES, HEAD_VALUES, HUB_CONTROL_SIZE, HUB_VALUES, LINE_SIZE};
 use motikhund::packet::Head;
-use motikhund::raw::{mk_build, mk_check};
+use motikhund::raw::{mk_build, mk_check, mk_hub_hear, mk_hub_hear_block, mk_hub_on};
 use motikhund::{packet, Heard, HubTold, Outcome, ReaderTold};
 
-use crate::calls::{self, Event, Fields, Told, PACKET};
+use crate::calls::{self, Event, Fields, Told, HUB_ANSWER, MESSAGE, PACKET};
 use crate::calls::{ACTED, ADDED, COPY, DELIVERED, FAILED, FOUND, HANDED_OUT, REPEATED, WRITTEN};
 
 pub struct Packets([u8; PACKET]);
@@ -93,10 +94,86 @@ impl calls::Machine for Hub {
             HubTold::Added { answer } => Told { number: ADDED, packet: answer, ..Told::default() },
             HubTold::Repeated { answer } => Told { number: REPEATED, packet: answer, ..Told::default() },
             HubTold::Message { code, message, answer } => {
-                Told { number: HANDED_OUT, values: [code, 0, 0, 0], packet: answer, message }
+                Told { number: HANDED_OUT, values: [code, 0, 0, 0], packet: answer, message, taken: 0 }
             }
             HubTold::Refused { why, answer } => refused(why, answer),
         }
+    }
+}
+
+/// A hub through the raw calls.
+pub struct RawHub {
+    pub control: [u8; HUB_CONTROL_SIZE],
+    pub line: [u8; LINE_SIZE],
+    pub gather: [u8; MESSAGE],
+    answer: [u8; HUB_ANSWER],
+    pub message: [u8; MESSAGE],
+}
+
+// SAFETY, for every call here: each pointer is that of a live reference, with its own length where the call takes one.
+
+impl calls::Machine for RawHub {
+    fn new() -> RawHub {
+        let mut hub = RawHub {
+            control: [0; HUB_CONTROL_SIZE],
+            line: [0; LINE_SIZE],
+            gather: [0; MESSAGE],
+            answer: [0; HUB_ANSWER],
+            message: [0; MESSAGE],
+        };
+        hub.switch_on();
+        hub
+    }
+
+    fn switch_on(&mut self) {
+        unsafe { mk_hub_on(self.control.as_mut_ptr(), self.control.len()) };
+    }
+
+    fn event(&mut self, event: Event) -> Told<'_> {
+        let RawHub { control, line, gather, answer, message } = self;
+        let mut values = [0; HUB_VALUES];
+        let number = unsafe {
+            mk_hub_hear(
+                control.as_mut_ptr(),
+                control.len(),
+                line,
+                gather,
+                answer.as_mut_ptr(),
+                answer.len(),
+                message.as_mut_ptr(),
+                message.len(),
+                event.number(),
+                &mut values,
+            )
+        };
+        let [size, code, count] = values;
+        let (packet, message) = (&answer[..size], &message[..count]);
+        Told { number, values: [code as u8, 0, 0, 0], packet, message, taken: 0 }
+    }
+}
+
+impl calls::Blocks for RawHub {
+    fn block<'a>(&'a mut self, bytes: &[u8], room: &'a mut [u8]) -> Told<'a> {
+        let RawHub { control, line, gather, message, .. } = self;
+        let mut values = [0; BLOCK_VALUES];
+        let number = unsafe {
+            mk_hub_hear_block(
+                control.as_mut_ptr(),
+                control.len(),
+                line,
+                gather,
+                room.as_mut_ptr(),
+                room.len(),
+                message.as_mut_ptr(),
+                message.len(),
+                bytes.as_ptr(),
+                bytes.len(),
+                &mut values,
+            )
+        };
+        let [size, code, count, taken] = values;
+        let (packet, message) = (&room[..size], &message[..count]);
+        Told { number, values: [code as u8, 0, 0, 0], packet, message, taken }
     }
 }
 
@@ -108,7 +185,9 @@ fn ended(number: u32, copies: usize) -> Told<'static> {
 fn sent(outcome: Outcome<'_>) -> Told<'_> {
     match outcome {
         Outcome::Nothing => Told::default(),
-        Outcome::Copy { copy, gap } => Told { number: COPY, values: [gap.into(), 0, 0, 0], packet: copy, message: &[] },
+        Outcome::Copy { copy, gap } => {
+            Told { number: COPY, values: [gap.into(), 0, 0, 0], packet: copy, ..Told::default() }
+        }
         Outcome::Delivered { copies } => ended(DELIVERED, copies),
         Outcome::Failed { copies } => ended(FAILED, copies),
         Outcome::Refused(why) => refused(why, &[]),
@@ -153,7 +232,7 @@ impl calls::Machine for Reader {
             ReaderTold::Acted { beep, permanent, answer } => {
                 let [duration, pitch, count] = beep.map_or([0; 3], |beep| [beep.duration, beep.pitch, beep.count]);
                 let values = [duration, pitch, count, permanent.into()];
-                Told { number: ACTED, values, packet: answer, message: &[] }
+                Told { number: ACTED, values, packet: answer, ..Told::default() }
             }
             ReaderTold::Repeated { answer } => Told { number: REPEATED, packet: answer, ..Told::default() },
             ReaderTold::Refused { why, answer } => refused(why, answer),

@@ -1,12 +1,13 @@
-//! Whether the peer does what the second program does: on the second program's own streams and sweeps, event by event.
-//! Compared are the number told, every value, every byte written and every byte of a room that is not; of a reader also
-//! its parameters with their locks, and its switches.
+//! Whether the peer does what the second program does: on the second program's own streams and sweeps, event by event,
+//! and in blocks, as they stand in these or cut at random. Compared are the number told, every value, every byte
+//! written and every byte of a room that is not; of a reader also its parameters with their locks, and its switches.
 
 use second::packet::{build, lay_out, Refusal, COMMANDS, DECODE_DATA, HOST, LONGEST, READER};
 use second::streams::{open_stream, sweep, Kind};
 use second::table::ROWS;
 
-use crate::calls::{Event, Fields, Machine, Packets, Told, SET};
+use crate::calls::{Blocks, Event, Fields, Machine, Packets, Told, BLOCK, HUB_ANSWER, SET};
+use crate::streams::Dice;
 use crate::work::Noted;
 use crate::{other, peer};
 
@@ -20,6 +21,10 @@ enum Token {
     Start(Vec<u8>),
     Save,
     Load(Vec<u8>),
+    /// Bytes for one call, and those not taken for further ones.
+    Block(Vec<u8>),
+    /// The size of the room for the answers of a block.
+    Room(usize),
 }
 
 fn pair(text: &[u8]) -> u8 {
@@ -27,10 +32,17 @@ fn pair(text: &[u8]) -> u8 {
     u8::from_str_radix(text, 16).unwrap_or_else(|_| panic!("{text} is no byte"))
 }
 
-/// The bytes of a token, up to its `;`.
-fn bytes_of(characters: &mut impl Iterator<Item = u8>) -> Vec<u8> {
-    let digits: Vec<u8> = characters.take_while(|character| *character != b';').collect();
+/// The bytes of a token, up to its last sign.
+fn bytes_of(characters: &mut impl Iterator<Item = u8>, last: u8) -> Vec<u8> {
+    let digits: Vec<u8> = characters.take_while(|character| *character != last).collect();
     digits.chunks(2).map(pair).collect()
+}
+
+/// The rooms of desk's streams are up to 65,535 bytes; so large is each that is compared at most.
+const ROOM: usize = 160;
+
+fn room_of(size: &[u8]) -> usize {
+    ROOM.min(usize::from(size[0]) * 256 + usize::from(size[1]))
 }
 
 /// The streams of the second program are right throughout, so nothing else is looked for.
@@ -44,8 +56,10 @@ fn tokens(text: &[u8]) -> Vec<Token> {
             b'T' => Token::TimeOut,
             b'P' => Token::PowerUp,
             b'W' => Token::Save,
-            b'S' => Token::Start(bytes_of(&mut words)),
-            b'L' => Token::Load(bytes_of(&mut words)),
+            b'S' => Token::Start(bytes_of(&mut words, b';')),
+            b'L' => Token::Load(bytes_of(&mut words, b';')),
+            b'K' => Token::Room(room_of(&bytes_of(&mut words, b';'))),
+            b'[' => Token::Block(bytes_of(&mut words, b']')),
             digit => Token::Line(Event::Byte(pair(&[digit, words.next().expect("a second digit")]))),
         };
         tokens.push(token);
@@ -53,11 +67,43 @@ fn tokens(text: &[u8]) -> Vec<Token> {
     tokens
 }
 
+/// The same with bytes in blocks of random sizes, and in random rooms, some of which are too small.
+fn cut(tokens: Vec<Token>, dice: &mut Dice) -> Vec<Token> {
+    let mut cut = Vec::new();
+    let mut block = Vec::new();
+    for token in tokens {
+        match token {
+            Token::Line(Event::Byte(byte)) if !dice.one_in(40) => block.push(byte),
+            other => {
+                in_blocks(std::mem::take(&mut block), dice, &mut cut);
+                cut.push(other);
+            }
+        }
+    }
+    in_blocks(block, dice, &mut cut);
+    cut
+}
+
+fn in_blocks(bytes: Vec<u8>, dice: &mut Dice, tokens: &mut Vec<Token>) {
+    let mut left = &bytes[..];
+    while !left.is_empty() {
+        if dice.one_in(4) {
+            // In a small room the block is refused and lost, as it is not given again.
+            let least = if dice.one_in(20) { 0 } else { HUB_ANSWER };
+            tokens.push(Token::Room(dice.between(least, 50)));
+        }
+        let most = if dice.one_in(2) { BLOCK } else { 20 };
+        let (block, rest) = left.split_at(dice.between(0, most).min(left.len()));
+        tokens.push(Token::Block(block.to_vec()));
+        left = rest;
+    }
+}
+
 /// Both programs beside each other.
 trait Both {
     fn new() -> Self;
-    /// What each brought, the peer's first.
-    fn take(&mut self, token: &Token) -> [Noted; 2];
+    /// What each call brought, the peer's first.
+    fn take(&mut self, token: &Token) -> Vec<[Noted; 2]>;
     /// What else can be seen of each after a token, by name.
     fn rooms(&self) -> Vec<(&'static str, [&[u8]; 2])>;
     /// Of the message room, which is long: compared where something was told.
@@ -67,20 +113,56 @@ trait Both {
 struct Hubs {
     peer: peer::Hub,
     second: other::Hub,
+    /// For the answers of blocks, and how much of them is lent.
+    answers: [[u8; ROOM]; 2],
+    room: usize,
+}
+
+impl Hubs {
+    /// In as many calls as it takes, or in one that is refused.
+    fn block(&mut self, bytes: &[u8]) -> Vec<[Noted; 2]> {
+        let Hubs { peer, second, answers: [peer_answers, second_answers], room } = self;
+        let mut calls = Vec::new();
+        let mut left = bytes;
+        loop {
+            let told = [
+                Noted::of(peer.block(left, &mut peer_answers[..*room])),
+                Noted::of(second.block(left, &mut second_answers[..*room])),
+            ];
+            let taken = told[1].taken();
+            calls.push(told);
+            left = &left[taken..];
+            if taken == 0 || left.is_empty() {
+                return calls;
+            }
+        }
+    }
 }
 
 impl Both for Hubs {
     fn new() -> Hubs {
-        Hubs { peer: Machine::new(), second: Machine::new() }
+        Hubs { peer: Machine::new(), second: Machine::new(), answers: [[0; ROOM]; 2], room: 20 }
     }
 
-    fn take(&mut self, token: &Token) -> [Noted; 2] {
-        let Token::Line(event) = token else { panic!("{token:?} is none of a hub's") };
-        [Noted::of(self.peer.event(*event)), Noted::of(self.second.event(*event))]
+    fn take(&mut self, token: &Token) -> Vec<[Noted; 2]> {
+        match token {
+            Token::Block(bytes) => self.block(bytes),
+            Token::Room(size) => {
+                self.room = *size;
+                vec![]
+            }
+            // The peer's room for an event is its own, so what is refused for want of room is no call of it.
+            Token::Line(_) if self.room < HUB_ANSWER => vec![],
+            Token::Line(event) => vec![[Noted::of(self.peer.event(*event)), Noted::of(self.second.event(*event))]],
+            other => panic!("{other:?} is none of a hub's"),
+        }
     }
 
     fn rooms(&self) -> Vec<(&'static str, [&[u8]; 2])> {
-        vec![("answer room", [&self.peer.0.answer, &self.second.answer])]
+        vec![
+            ("answer room", [&self.peer.0.answer, &self.second.answer]),
+            ("room of a block", [&self.answers[0], &self.answers[1]]),
+        ]
     }
 
     fn long_room(&self) -> [&[u8]; 2] {
@@ -112,7 +194,7 @@ impl Both for Readers {
         }
     }
 
-    fn take(&mut self, token: &Token) -> [Noted; 2] {
+    fn take(&mut self, token: &Token) -> Vec<[Noted; 2]> {
         let Readers { peer, second, sets: [peer_set, second_set], .. } = self;
         let told = match token {
             Token::Line(event) => [Noted::of(peer.event(*event)), Noted::of(second.event(*event))],
@@ -127,12 +209,13 @@ impl Both for Readers {
                 second.reader.power_up();
                 [Noted::of(Told::default()), Noted::of(Told::default())]
             }
+            Token::Block(_) | Token::Room(_) => panic!("{token:?} is none of a reader's"),
         };
         let now = second.reader.switches();
         self.switches = [now.enabled, now.session, now.aim, now.led].map(u8::from);
         self.peer_switches = peer.0.switches.map(u8::from);
         self.locks = [peer.0.locks, second.reader.table().locks].map(|locks| locks.map(u8::from));
-        told
+        vec![told]
     }
 
     fn rooms(&self) -> Vec<(&'static str, [&[u8]; 2])> {
@@ -159,21 +242,23 @@ fn same([peer, second]: &[Noted; 2]) -> Result<(), String> {
 }
 
 /// How they differ after a token.
-fn difference<B: Both>(both: &B, told: &[Noted; 2]) -> Option<String> {
-    if let Err(how) = same(told) {
+fn difference<B: Both>(both: &B, told: &[[Noted; 2]]) -> Option<String> {
+    if let Some(how) = told.iter().find_map(|told| same(told).err()) {
         return Some(how);
     }
-    let long = told[0].tells().then(|| ("message or copy room", both.long_room()));
+    let tells = told.iter().any(|told| told[0].tells());
+    let long = tells.then(|| ("message or copy room", both.long_room()));
     let differs = both.rooms().into_iter().chain(long).find(|(_, [peer, second])| peer != second);
     differs.map(|(name, [peer, second])| format!("  {name}, peer:   {peer:02X?}\n  {name}, second: {second:02X?}"))
 }
 
-/// How many tokens there were.
-fn stream<B: Both>(origin: &str, text: &[u8]) -> Result<usize, String> {
+/// How many calls there were.
+fn run<B: Both>(origin: &str, tokens: &[Token]) -> Result<usize, String> {
     let mut both = B::new();
-    let tokens = tokens(text);
+    let mut calls = 0;
     for (at, token) in tokens.iter().enumerate() {
         let told = both.take(token);
+        calls += told.len();
         if let Some(how) = difference(&both, &told) {
             return Err(format!(
                 "peer and second program differ in {origin}, first at token {at}: {token:02X?}\n{how}"
@@ -181,19 +266,31 @@ fn stream<B: Both>(origin: &str, text: &[u8]) -> Result<usize, String> {
         }
     }
     let [peer, second] = both.long_room();
-    (peer == second).then_some(tokens.len()).ok_or_else(|| format!("{origin}: the rooms differ at the end"))
+    (peer == second).then_some(calls).ok_or_else(|| format!("{origin}: the rooms differ at the end"))
 }
 
 /// Streams of so many events are long enough to get deep, and there is a room at the end of each to look at.
 const EVENTS: u64 = 10_000;
 
 fn streams<B: Both>(kind: Kind, number: u64) -> Result<usize, String> {
-    let mut tokens = stream::<B>(&format!("second streams {} sweep", kind.name()), &sweep(kind).text)?;
+    let mut calls = run::<B>(&format!("second streams {} sweep", kind.name()), &tokens(&sweep(kind).text))?;
     for seed in 1..=number {
         let origin = format!("second streams {} {seed} {EVENTS}", kind.name());
-        tokens += stream::<B>(&origin, &open_stream(kind, seed, EVENTS).text)?;
+        calls += run::<B>(&origin, &tokens(&open_stream(kind, seed, EVENTS).text))?;
     }
-    Ok(tokens)
+    Ok(calls)
+}
+
+/// A hub's streams, cut into blocks at random.
+fn cut_streams(number: u64) -> Result<usize, String> {
+    let cut_sweep = cut(tokens(&sweep(Kind::Hub).text), &mut Dice::new(0));
+    let mut calls = run::<Hubs>("second streams hub sweep, cut into blocks", &cut_sweep)?;
+    for seed in 1..=number {
+        let origin = format!("second streams hub {seed} {EVENTS}, cut into blocks");
+        let stream = open_stream(Kind::Hub, seed, EVENTS).text;
+        calls += run::<Hubs>(&origin, &cut(tokens(&stream), &mut Dice::new(seed)))?;
+    }
+    Ok(calls)
 }
 
 struct Packers {
@@ -281,7 +378,7 @@ pub fn compare(number: u64) -> Result<usize, String> {
     if !peer::laid_out_alike() {
         return Err("the peer's structs are not as C lays them out".to_string());
     }
-    let hubs = streams::<Hubs>(Kind::Hub, number)?;
+    let hubs = streams::<Hubs>(Kind::Hub, number)? + streams::<Hubs>(Kind::DeskHub, number)? + cut_streams(number)?;
     let readers = streams::<Readers>(Kind::Reader, number)?;
     Ok(packets()? + small_rooms()? + small_set_rooms()? + hubs + readers)
 }

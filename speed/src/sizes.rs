@@ -131,13 +131,15 @@ fn texts(size: &str) -> Option<Vec<(String, usize)>> {
     size.lines().skip(1).map(text).collect()
 }
 
-/// The exported calls that `nm -S` tells of.
+/// The code of each exported call. One that the library calls too stands there twice: as itself, and as a jump to that.
 fn calls(symbols: &str) -> BTreeMap<String, usize> {
-    let call = |line: &str| match line.split_whitespace().collect::<Vec<_>>()[..] {
-        [_, size, "T", name] if name.starts_with("mk_") => {
-            Some((name.to_string(), usize::from_str_radix(size, 16).ok()?))
+    let mut calls = BTreeMap::new();
+    for line in symbols.lines() {
+        let [_, size, _, name] = line.split_whitespace().collect::<Vec<_>>()[..] else { continue };
+        let name = name.strip_prefix("motikhund::").unwrap_or(name);
+        if let (true, Ok(size)) = (name.starts_with("mk_"), usize::from_str_radix(size, 16)) {
+            *calls.entry(name.to_string()).or_default() += size;
         }
-        _ => None,
-    };
-    symbols.lines().filter_map(call).collect()
+    }
+    calls
 }

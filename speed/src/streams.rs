@@ -7,6 +7,7 @@ use second::sender::PIECE;
 use second::table::{allowed, HIGHEST_BEEP, NO_BEEP, ROWS};
 
 use crate::calls::{Event, ACK, MESSAGE, NAK_RESEND, TIME_OUT};
+use crate::in_c::Part;
 
 /// splitmix64.
 pub struct Dice(u64);
@@ -28,7 +29,7 @@ impl Dice {
         low + (self.next() % (high - low + 1) as u64) as usize
     }
 
-    fn one_in(&mut self, n: usize) -> bool {
+    pub fn one_in(&mut self, n: usize) -> bool {
         self.between(1, n) == 1
     }
 
@@ -85,6 +86,20 @@ impl Stream {
         let mut numbers = Vec::new();
         self.events(|event| numbers.push(event.number() as u16));
         numbers
+    }
+
+    /// The parts as C takes them in blocks.
+    pub fn blocks(&self) -> Vec<Part> {
+        self.parts.iter().map(|(place, gap)| Part { size: place.len(), gap: gap.number() }).collect()
+    }
+
+    /// The same bytes with so many parts in one, the gaps between them left out.
+    pub fn joined(&self, number: usize) -> Stream {
+        let parts = self.parts.chunks(number).map(|parts| {
+            let ((first, _), (last, gap)) = (&parts[0], &parts[parts.len() - 1]);
+            (first.start..last.end, *gap)
+        });
+        Stream { bytes: self.bytes.clone(), parts: parts.collect() }
     }
 
     /// Of so many bytes at least.

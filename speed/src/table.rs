@@ -5,36 +5,40 @@ use std::collections::BTreeSet;
 use crate::bars::Measured;
 use crate::sizes::{Code, State};
 use crate::stack::Depths;
-use crate::work::{Four, TimedRow, Took};
+use crate::work::{Five, TimedRow, Took};
 
 pub fn times(rows: &[TimedRow]) {
-    println!("{:64}{:>32}{:>24}{:>17}", "", "ns a byte", "proved to", "ns an event");
+    println!("{:64}{:>40}{:>32}{:>17}", "", "ns a byte", "proved to", "ns an event");
     print!("{:32}{:>7}{:>8}{:>8}{:>9}", "one pass", "bytes", "events", "packets", "messages");
-    print!("{:>9}{:>8}{:>8}{:>8}", "proved", "peer", "second", "bare");
-    println!("{:>8}{:>8}{:>8}{:>9}{:>8}", "peer", "second", "bare", "proved", "peer");
+    print!("{:>9}{:>8}{:>8}{:>8}{:>8}", "proved", "peer", "second", "bare", "plain");
+    println!("{:>8}{:>8}{:>8}{:>8}{:>9}{:>8}", "peer", "second", "bare", "plain", "proved", "peer");
     for row in rows {
         let (bytes, events) = (row.bytes as f64, row.events as f64);
         let pass = row.nanoseconds();
-        let Four { proved, peer, second, bare } = row.nanoseconds().map(|nanoseconds| nanoseconds / bytes);
+        let Five { proved, peer, second, bare, plain } = row.nanoseconds().map(|nanoseconds| nanoseconds / bytes);
         print!("{:32}{:>7}{:>8}{:>8}{:>9}", row.name, row.bytes, row.events, row.packets, row.messages);
-        print!("{proved:>9.2}{peer:>8.2}{second:>8.2}{bare:>8.2}");
-        print!("{:>8.2}{:>8.2}{:>8.2}", proved / peer, proved / second, proved / bare);
+        print!("{proved:>9.2}{peer:>8.2}{second:>8.2}{bare:>8.2}{plain:>8.2}");
+        [peer, second, bare, plain].iter().for_each(|other| print!("{:>8.2}", proved / other));
         println!("{:>9.1}{:>8.1}", pass.proved / events, pass.peer / events);
     }
     println!(
         "packets: answers of a hub and a reader, copies of a sender, packets that the check found or that were built."
     );
-    println!("bare: the same bytes summed; in the rows of building, copied and summed.");
+    println!("bare: the same bytes summed, with vector instructions; in the rows of building, copied and summed.");
+    println!("plain: the same bytes summed one by one, without these.");
+    println!("In rows of blocks an event is a call: one with a block of up to 4,096 bytes, or a gap.");
     println!("In every row all three programs told the same numbers and values and wrote the same bytes.");
 }
 
 /// Rows whose instructions were counted.
 pub fn counts(rows: &[Measured]) {
-    println!("{:39}{:>25}{:>16}", "", "instructions an event", "proved to");
-    println!("{:32}{:>7}{:>9}{:>8}{:>8}{:>8}{:>8}", "one pass", "events", "proved", "peer", "bare", "peer", "bare");
-    for Measured { name, events, took: Took { proved, peer, bare }, .. } in rows {
-        let [proved, peer, bare] = [proved, peer, bare].map(|count| count / *events as f64);
-        println!("{name:32}{events:>7}{proved:>9.1}{peer:>8.1}{bare:>8.1}{:>8.2}{:>8.2}", proved / peer, proved / bare);
+    println!("{:39}{:>33}{:>24}", "", "instructions an event", "proved to");
+    print!("{:32}{:>7}{:>9}{:>8}{:>8}{:>8}", "one pass", "events", "proved", "peer", "bare", "plain");
+    println!("{:>8}{:>8}{:>8}", "peer", "bare", "plain");
+    for Measured { name, events, took: Took { proved, peer, bare, plain, .. }, .. } in rows {
+        let [proved, peer, bare, plain] = [proved, peer, bare, plain].map(|count| count / *events as f64);
+        print!("{name:32}{events:>7}{proved:>9.1}{peer:>8.1}{bare:>8.1}{plain:>8.1}");
+        println!("{:>8.2}{:>8.2}{:>8.2}", proved / peer, proved / bare, proved / plain);
     }
     println!("Counted one by one, on less of the same work; the loop that makes the calls is left out.");
 }

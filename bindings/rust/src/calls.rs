@@ -7,8 +7,8 @@
 //! Each gives the library's number, and the values that were told with it.
 
 use crate::constants::{
-    GOING_SIZE, HEAD_VALUES, HUB_VALUES, LINE_SIZE, MESSAGE_SIZE, READER_ANSWER_SIZE, READER_VALUES, START_VALUES,
-    SWITCH_VALUES,
+    BLOCK_VALUES, GOING_SIZE, HEAD_VALUES, HUB_VALUES, LINE_SIZE, MESSAGE_SIZE, READER_ANSWER_SIZE, READER_VALUES,
+    START_VALUES, SWITCH_VALUES,
 };
 use crate::raw;
 
@@ -81,6 +81,34 @@ pub(crate) fn hub_hear(
             message.as_mut_ptr(),
             message.len(),
             event,
+            &mut values,
+        )
+    };
+    (number, values)
+}
+
+pub(crate) fn hub_hear_block(
+    control: &mut [u8],
+    line: &mut [u8; LINE_SIZE],
+    gather: &mut [u8; MESSAGE_SIZE],
+    answer: &mut [u8],
+    message: &mut [u8],
+    bytes: &[u8],
+) -> (u32, [usize; BLOCK_VALUES]) {
+    let mut values = [0; BLOCK_VALUES];
+    // SAFETY: the rule above.
+    let number = unsafe {
+        raw::mk_hub_hear_block(
+            control.as_mut_ptr(),
+            control.len(),
+            line,
+            gather,
+            answer.as_mut_ptr(),
+            answer.len(),
+            message.as_mut_ptr(),
+            message.len(),
+            bytes.as_ptr(),
+            bytes.len(),
             &mut values,
         )
     };

@@ -29,6 +29,8 @@ pub const READER_ANSWER_SIZE: usize = 25;
 pub const SET_SIZE: usize = 30;
 /// The most data in a packet.
 pub const DATA_SIZE: usize = 251;
+/// The most bytes in a block; more of them are refused with `Refusal::Long`.
+pub const BLOCK_SIZE: usize = 4096;
 
 // ---- what goes in, as `Event`, `Heard` and `Reply` have it by name
 
@@ -260,6 +262,17 @@ pub const HUB_VALUE_CODE: usize = 1;
 pub const HUB_VALUE_COUNT: usize = 2;
 /// The values of a hub.
 pub const HUB_VALUES: usize = 3;
+
+/// Block: so many bytes of the answer room are to be sent, all answers one after the other.
+pub const BLOCK_VALUE_ANSWER: usize = 0;
+/// Block, of a message: its code type.
+pub const BLOCK_VALUE_CODE: usize = 1;
+/// Block, of a message: so many bytes of the message room.
+pub const BLOCK_VALUE_COUNT: usize = 2;
+/// Block: so many bytes were taken; those behind them are to be given again.
+pub const BLOCK_VALUE_TAKEN: usize = 3;
+/// The values of a block.
+pub const BLOCK_VALUES: usize = 4;
 
 /// Start, of a copy: so many bytes of the room are to be sent.
 pub const START_VALUE_SIZE: usize = 0;

@@ -24,6 +24,8 @@
 //! assert_eq!(filed, [(0x1B, b"8".to_vec())]);
 //! ```
 //!
+//! A hub whose bytes come by DMA takes them as they are handed over, a block at a time ([`Hub::block`]).
+//!
 //! A reader's sender speaks at a start, at a time-out and at an event; a copy goes on the line each time:
 //!
 //! ```
@@ -61,7 +63,9 @@
 //! main loop give the events, in order. Most events of a line are a call of some thirty instructions without a loop
 //! ([`raw::mk_go_on`]); the last byte of a packet takes a hub some 2,500 at most, a reader some 10,000. With `raw` the
 //! short way alone in the interrupt and the rest in the main loop is wrong: an event that it left must be taken before
-//! any later one. It is right only where no event is queued and the main loop is in no call of that machine.
+//! any later one. It is right only where no event is queued and the main loop is in no call of that machine. Where DMA
+//! receives, what it has filled is such a queue: the main loop gives it to the hub as a block ([`Hub::block`]). No gap
+//! is among the bytes of a block, so it ends where the line falls idle, and the gap is given behind it.
 //!
 //! # Timing and duties
 //!
@@ -121,7 +125,7 @@ mod sender;
 
 pub use framer::{Found, Framer};
 pub use heard::{Event, Heard, Reply};
-pub use hub::{Hub, HubTold};
+pub use hub::{BlockTold, Hub, HubBlock, HubBlocks, HubTold};
 pub use lent::sender::heed;
 pub use reader::{Beep, Reader, ReaderTold, Switches};
 pub use refusal::Refusal;

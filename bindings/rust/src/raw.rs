@@ -3,9 +3,9 @@
 //!
 //! Each takes a slice as a pointer and a length; a fixed array is a pointer alone. Each gives 0
 //! ([`NOTHING`](crate::constants::NOTHING)), a refusal's number ([`Refusal`](crate::Refusal)), or a number of 100 and
-//! above, and tells its values beside it; with a refusal they are 0, but for the size of an answer. What each promises
-//! is proved where it is written, in `crates/motikhund`: it ends, and reads and writes only what it is lent, whatever
-//! the bytes in it are.
+//! above, and tells its values beside it; with a refusal they are 0, but for the size of an answer and the bytes taken
+//! of a block. What each promises is proved where it is written, in `crates/motikhund`: it ends, and reads and writes
+//! only what it is lent, whatever the bytes in it are.
 //!
 //! # Safety
 //!
@@ -15,8 +15,8 @@
 //! `values`). No call keeps a pointer.
 
 use crate::constants::{
-    GOING_SIZE, HEAD_VALUES, HUB_VALUES, LINE_SIZE, MESSAGE_SIZE, READER_ANSWER_SIZE, READER_VALUES, START_VALUES,
-    SWITCH_VALUES,
+    BLOCK_VALUES, GOING_SIZE, HEAD_VALUES, HUB_VALUES, LINE_SIZE, MESSAGE_SIZE, READER_ANSWER_SIZE, READER_VALUES,
+    START_VALUES, SWITCH_VALUES,
 };
 
 extern "C" {
@@ -101,6 +101,28 @@ extern "C" {
         message_len: usize,
         event: u32,
         values: *mut [usize; HUB_VALUES],
+    ) -> u32;
+
+    /// A block of up to `BLOCK_SIZE` bytes with no gap among them at the hub, as [`mk_hub_hear`] takes them one by one:
+    /// `MESSAGE`, `Length`, `Checksum` or `NOTHING`; the values are `BLOCK_VALUE_..`. It leaves where a message is
+    /// whole, and where fewer than `HUB_ANSWER_SIZE` bytes of the answer room are left; bytes that were not taken are
+    /// for a next call. Or, in this order, `Room`; `Long`. The rooms are those of an event; an answer room of more
+    /// bytes has room for more answers.
+    ///
+    /// # Safety
+    /// As [above](self#safety).
+    pub fn mk_hub_hear_block(
+        control: *mut u8,
+        control_len: usize,
+        line: *mut [u8; LINE_SIZE],
+        gather: *mut [u8; MESSAGE_SIZE],
+        answer: *mut u8,
+        answer_len: usize,
+        message: *mut u8,
+        message_len: usize,
+        bytes: *const u8,
+        bytes_len: usize,
+        values: *mut [usize; BLOCK_VALUES],
     ) -> u32;
 
     /// Makes the control value (`SENDER_CONTROL_SIZE`) of a sender with nothing out, after a message that failed or

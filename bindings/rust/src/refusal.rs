@@ -3,7 +3,7 @@
 use core::error::Error;
 use core::fmt;
 
-/// Why a call or a packet is refused, and its number (docs/PROTOCOL.md §6). With 11 to 13 no lent byte changes.
+/// Why a call or a packet is refused, and its number (docs/PROTOCOL.md §6). With 11 and above no lent byte changes.
 #[derive(Clone, Copy, Debug, PartialEq, Eq, PartialOrd, Ord, Hash)]
 pub enum Refusal {
     /// Length below 4.
@@ -32,6 +32,8 @@ pub enum Refusal {
     Form = 12,
     /// Lent room too small; the event is not taken.
     Room = 13,
+    /// More bytes than a call takes; none is taken.
+    Long = 15,
 }
 
 impl Refusal {
@@ -56,6 +58,7 @@ impl Refusal {
             11 => Refusal::Start,
             12 => Refusal::Form,
             13 => Refusal::Room,
+            15 => Refusal::Long,
             _ => return None,
         })
     }
@@ -77,6 +80,7 @@ impl fmt::Display for Refusal {
             Refusal::Start => "a message over 4,096 bytes, or one still out",
             Refusal::Form => "bytes that are not the form of a set, or a value in it that is not allowed",
             Refusal::Room => "a lent room that is too small",
+            Refusal::Long => "more bytes than a call takes",
         };
         write!(to, "refusal {}: {why}", self.number())
     }

@@ -3,6 +3,7 @@ pub mod Outcomes
 pub mod Quick
 pub mod Refusing
 pub mod ShortWay
+pub mod Silence
 pub mod Steps
 pub mod Theorems
 pub mod Touching

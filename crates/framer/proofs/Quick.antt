@@ -35,11 +35,11 @@ use Rattle.framer.proofs.TwoHalves.{listens, listened-nothing, place-mo
 -- ---- a byte in one half
 
 -- What the framer tells of a byte where the check does not ask for more: a length below 4, or all bytes there.
-low-told : (s : List ℕ) → (length s ≡ 0 → ⊥) → getD s 0 0 < 4 → silent (judged s (checkOf s) .told) ≡ false
+pub low-told : (s : List ℕ) → (length s ≡ 0 → ⊥) → getD s 0 0 < 4 → silent (judged s (checkOf s) .told) ≡ false
 unfolding checkOf judged silent
 low-told s some l = simp (ne-eqb (length s) 0 some, lt-ltb (getD s 0 0) 4 l)
 
-whole-told : (s : List ℕ) → getD s 0 0 + 2 ≤ length s → silent (judged s (checkOf s) .told) ≡ false
+pub whole-told : (s : List ℕ) → getD s 0 0 + 2 ≤ length s → silent (judged s (checkOf s) .told) ≡ false
 unfolding judged silent
 whole-told s l = by (checkOf s) refl
   where
@@ -125,7 +125,7 @@ module _ {f next : Framer} {second : Bool} {buffer : List ℕ} {g : Going} (some
   goes-gap k = on some t (rw (listened-nothing (k 0) refl) refl) k
 
 -- An event that changes no byte of the half changes none at all.
-still : {f next : Framer} {second : Bool} {buffer : List ℕ} {e : Event} → length buffer ≡ lineSize → Bytes buffer →
+pub still : {f next : Framer} {second : Bool} {buffer : List ℕ} {e : Event} → length buffer ≡ lineSize → Bytes buffer →
     ((line : List ℕ) → packetSize ≤ length line → Frames f line e (record { framer = next; found = Nothing }) line) →
     (last : ℕ) → Listens (halvesWith f second last) buffer e (record { halves = halvesWith next second last; found = Nothing }) buffer
 still {f} {next} {second} {buffer} {e} long bytes frames last =

@@ -62,7 +62,7 @@ module _ (a : ℕ) (buffer : List ℕ) where
   whole-back : take a buffer ++ (take packetSize (drop a buffer) ++ drop packetSize (drop a buffer)) ≡ buffer
   whole-back = ap (λ (s : List ℕ). take a buffer ++ s) (take-append-drop packetSize (drop a buffer)) ∙ take-append-drop a buffer
 
-  set-back : (at b : ℕ) → at < length (take packetSize (drop a buffer)) →
+  pub set-back : (at b : ℕ) → at < length (take packetSize (drop a buffer)) →
       take a buffer ++ (set (take packetSize (drop a buffer)) at b ++ drop packetSize (drop a buffer)) ≡ set buffer (a + at) b
   set-back at b h =
       let inner = sym (set-append-left (take packetSize (drop a buffer)) (drop packetSize (drop a buffer)) at b h) ∙ ap (λ (s : List ℕ). set s at b) (take-append-drop packetSize (drop a buffer)) in

@@ -6,12 +6,16 @@ use mathlib.Core.Bool.{Bool}
 use mathlib.Core.List.{List}
 use Rattle.framer.specs.Promises.{Idle, Frames}
 use Rattle.framer.specs.Halves.{IdleHalves, Listens, Received, Kept, AcceptsLast, goingBy, GoesOn, on, left}
+use Rattle.framer.specs.Framer.{Heard}
+use Rattle.framer.specs.Silence.{LineAt, TakesIn}
 use Rattle.framer.specs.declared.Event.{Event}
 use Rattle.framer.specs.declared.Framer.{Framer}
 use Rattle.framer.specs.declared.Framed.{Framed}
 use Rattle.framer.specs.declared.Halves.{Halves}
 use Rattle.framer.specs.declared.Listened.{Listened}
 use Rattle.framer.specs.declared.Going.{Going}
+use Rattle.framer.specs.declared.TakenIn.{TakenIn}
+use Rattle.words.specs.Machine.{Done}
 use Rattle.words.proofs.Lists.{never}
 
 pub idle-unique : {r r′ : Framer} → Idle r → Idle r′ → r ≡ r′
@@ -44,3 +48,10 @@ go-on-unique {f} (on s t g k) (on s′ t′ g′ k′) =
 go-on-unique (on s t g k) (left g′ k′) = never (cc)
 go-on-unique (left g k) (on s t g′ k′) = never (cc)
 go-on-unique (left g k) (left g′ k′) = (refl, k ∙ sym k′)
+
+pub take-in-unique : {h : Halves} {buffer bytes buffer₁ buffer₂ : List ℕ} {r r′ : TakenIn} → TakesIn h buffer bytes r buffer₁ → TakesIn h buffer bytes r′ buffer₂ → (r ≡ r′) × (buffer₁ ≡ buffer₂)
+take-in-unique {r = r} {r′} p q =
+    let count : r .count ≡ r′ .count = p .count-is ∙ sym (q .count-is) in
+    let left = ap (λ (d : Done LineAt Heard). d .next) (sym (p .stands) ∙ rw (← count) at (q .stands)) in
+    let halves : r .halves ≡ r′ .halves = ap (λ (l : LineAt). l .halves) left in
+    (ap (λ (h : Halves). record { halves = h; count = r .count }) halves ∙ ap (λ (n : ℕ). record { halves = r′ .halves; count = n }) count, ap (λ (l : LineAt). l .buffer) left)

@@ -5,12 +5,13 @@ use packet::HEAD_SIZE;
 use packet::Head;
 use packet::PACKET_SIZE;
 use packet::Refusal;
-ghost use Prim.Native.Nat.{_≤_};
+ghost use Prim.Native.Nat.{_≤_, _<_};
 ghost use mathlib.Core.Bool.{false};
 ghost use mathlib.Core.Path.{_≡_};
 ghost use lib.ListN.{length};
 ghost use Rattle.packet.specs.Sizes.{packetSize};
 ghost use Rattle.framer.specs.Halves.{lineSize, IdleHalves, Moved, Listens, Received, Kept, AcceptsLast, Place, Last, GoesOn, Inside};
+ghost use Rattle.framer.specs.Silence.{TakesIn, HeardSo, LengthOf, InsideOf};
 ghost use Rattle.framer.specs.Promises.{begunOf, Idle, Deaf, Ended, Begun, Gap, Unfinished, Frames};
 
 // Room for two packets: one half receives, the last accepted packet stays in the other.
@@ -292,6 +293,85 @@ fn pause(framer: Framer, second: bool, buffer: &[u8]) -> Going
         0 => Going::On(0),
         _ => Going::Left,
     }
+}
+
+// What went in silence: the halves afterwards, and how many bytes.
+pub struct TakenIn {
+    pub halves: Halves,
+    pub count: usize,
+}
+
+// Many bytes at once: as many, from the first on, as the framer tells nothing of. Those inside a packet are moved behind the ones before
+// them in one go, and a deaf framer ignores all. The byte that ends a packet is left, and so is too low a length. As in `go_on` there
+// is no test for number 13.
+pub fn take_in(halves: Halves, buffer: &mut [u8; LINE_SIZE], bytes: &[u8]) -> TakenIn
+    ensures { λ r. ⌜ TakesIn halves (now (buffer .entry)) (now (bytes .entry)) r (now (buffer .exit)) ⌝ }
+{
+    take_in_half(halves, buffer, bytes)
+}
+
+fn take_in_half(halves: Halves, buffer: &mut [u8], bytes: &[u8]) -> TakenIn
+    requires { ⌜ length (now buffer) ≡ lineSize ⌝ }
+    ensures { λ r. ⌜ TakesIn halves (now (buffer .entry)) (now (bytes .entry)) r (now (buffer .exit)) ⌝ }
+{
+    if bytes.len() == 0 {
+        return TakenIn { halves, count: 0 };
+    }
+    let framer = halves.framer;
+    if framer.deaf {
+        return TakenIn {
+            halves: moved(halves, deaf()),
+            count: bytes.len(),
+        };
+    }
+    let from = place(halves.second);
+    let n = begun(framer);
+    let count = inside_of(n, &buffer[from..], bytes);
+    if count == 0 {
+        return TakenIn { halves, count };
+    }
+    words::copy(&bytes[..count], &mut buffer[from + n..]);
+    TakenIn {
+        halves: moved(halves, heard(n + count)),
+        count,
+    }
+}
+
+// So many bytes are begun.
+fn heard(count: usize) -> Framer
+    ensures { λ r. ⌜ HeardSo count r ⌝ }
+{
+    Framer { count, deaf: false }
+}
+
+// How many of these bytes go inside the packet of which n bytes stand in the line, its last byte not among them.
+fn inside_of(n: usize, line: &[u8], bytes: &[u8]) -> usize
+    requires { ⌜ (n < packetSize) × (packetSize ≤ length (now line)) × (1 ≤ length (now bytes)) ⌝ }
+    ensures { λ r. ⌜ InsideOf n (now (line .entry)) (now (bytes .entry)) r ⌝ }
+{
+    let length = length_of(n, line, bytes);
+    if length < HEAD_SIZE {
+        return 0;
+    }
+    if length < n {
+        return 0;
+    }
+    let most = length + 1 - n;
+    if most < bytes.len() {
+        return most;
+    }
+    bytes.len()
+}
+
+// The first byte of a packet is its length: it stands in the line, or is the first to come.
+fn length_of(n: usize, line: &[u8], bytes: &[u8]) -> usize
+    requires { ⌜ (1 ≤ length (now line)) × (1 ≤ length (now bytes)) ⌝ }
+    ensures { λ r. ⌜ LengthOf n (now (line .entry)) (now (bytes .entry)) r ⌝ }
+{
+    if n == 0 {
+        return words::wide(bytes[0]);
+    }
+    words::wide(line[0])
 }
 
 // The first n bytes of the half that receives.

@@ -1,5 +1,7 @@
+pub mod Blocks
 pub mod Calm
 pub mod Control
+pub mod Cuts
 pub mod Hearing
 pub mod Joining
 pub mod Outcomes

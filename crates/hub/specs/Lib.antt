@@ -1,3 +1,5 @@
+pub mod Block
+pub mod Cuts
 pub mod Hub
 pub mod Joiner
 pub mod Promises

@@ -23,6 +23,9 @@ ghost use Rattle.hub.specs.Promises.{hubAnswerSize, Closed, SwitchedOn, 
 // What every event asks of the answer room.
 pub const HUB_ANSWER_SIZE: usize = packet::ANSWER_SIZE;
 
+// The most bytes that one call takes (`mk_hub_hear_block`).
+pub const BLOCK_SIZE: usize = 4096;
+
 // What is gathered of a message: whether one is begun, its code type, and how many bytes wait in the gather buffer.
 pub struct Gathering {
     pub barred: bool,

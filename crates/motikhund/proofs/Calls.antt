@@ -5,10 +5,12 @@ use mathlib.Core.Bool.{Bool, true, false}
 use mathlib.Core.List.{List, [], _∷_}
 use native.Mathlib.Omega.{arith}
 use lib.ListN.{length, drop}
-use borrow.Author.Tests.{le-leb, lt-leb}
+use borrow.Author.Tests.{le-leb, lt-leb, le-ltb, lt-ltb}
 use Rattle.words.specs.Lists.{Wide, over}
 use Rattle.words.proofs.Lists.{never}
+use Rattle.packet.specs.Refusals.{numberOf}
 use Rattle.packet.specs.declared.Refusal.{Refusal}
+use Rattle.packet.specs.declared.Refusal.the-variants as refusal
 use Rattle.packet.specs.Promises as packet
 use Rattle.packet.specs.Sizes.{packetSize, answerSize, messageSize}
 use Rattle.packet.specs.declared.Checked.{Checked}
@@ -20,6 +22,9 @@ use Rattle.framer.specs.declared.Event.{Event}
 use Rattle.framer.specs.declared.Framer.{Framer}
 use Rattle.framer.specs.declared.Framed.{Framed}
 use Rattle.hub.specs.Promises as joining
+use Rattle.hub.specs.Block.{blockSize, HearsBlock}
+use Rattle.hub.proofs.Blocks as blocks
+use Rattle.hub.proofs.Blocks.{refusedBlock}
 use Rattle.hub.specs.declared.Hub.{Hub}
 use Rattle.hub.specs.declared.Taken.{Taken}
 use Rattle.framer.specs.declared.Going.{Going}
@@ -52,7 +57,7 @@ use Rattle.reader.proofs.Loading as loading
 use Rattle.motikhund.specs.Lent.{Need, atLeast, Lacking, here, there, Enough, none, more, Asks, IfNamed, KeptUnless, Kept, Made}
 use Rattle.motikhund.specs.Control.{senderControlSize, readerControlSize, numberIn, numberBytes, flagIn, framerIn, framerBytes, hubIn, hubBytes, senderIn, senderBytes, readerIn, readerBytes, FramerIn, PutsNumber, PutsFramer, HubIn, PutsHub, SenderIn, PutsSender, ReaderIn, PutsReader, FlagByte, Switches, PermanentChanged}
 use Rattle.motikhund.specs.Numbers.{isEvent, isReply, noHead, EventOf, HeardOf, HeardNumber, ReplyOf, CheckedNumber, CheckedValues, FoundNumber, FoundValues, BuiltNumber, HubNumber, HubValues, OutcomeNumber, OutcomeValue, StartValues, isRefused, OutcomeRefused, waitsNumber, ReaderNumber, ReaderValues, verdictNumber, isUnread, WrittenNumber, WrittenSize, VerdictNumber, Unread}
-use Rattle.motikhund.specs.Promises.{PacketChecks, PacketBuilds, PacketAnswers, FramerHears, GoesOn, HubHears, Brings, Begins, SenderStarts, SenderHears, SenderWaits, SenderHeeds, FreshReader, ReaderStarts, ReaderTimesOut, ReaderHears, ReaderValue, ReaderLocked, ReaderSaves, unreadNumber, ReaderLoads, ReaderSwitches}
+use Rattle.motikhund.specs.Promises.{PacketChecks, PacketBuilds, PacketAnswers, FramerHears, GoesOn, HubHears, HubTakesBlock, HubHearsBlock, Brings, Begins, SenderStarts, SenderHears, SenderWaits, SenderHeeds, FreshReader, ReaderStarts, ReaderTimesOut, ReaderHears, ReaderValue, ReaderLocked, ReaderSaves, unreadNumber, ReaderLoads, ReaderSwitches}
 use Rattle.motikhund.proofs.Reading.{number-back, framer-back, hub-back, sender-back, reader-back}
 
 -- ---- what is lent
@@ -102,7 +107,7 @@ framer-kept : {f : Framer} {control control′ : List ℕ} → PutsFramer f cont
 unfolding over
 framer-kept {f} {control} k = record { control-is = k .is; reads = rw (k .is) (framer-back f (drop (length (framerBytes f)) control) (k .small)) }
 
-hub-kept : {h : Hub} {control control′ : List ℕ} → PutsHub h control control′ → Kept hubIn hubBytes h control control′
+pub hub-kept : {h : Hub} {control control′ : List ℕ} → PutsHub h control control′ → Kept hubIn hubBytes h control control′
 unfolding over
 hub-kept {h} {control} k = record { control-is = k .is; reads = rw (k .is) (hub-back h (drop (length (hubBytes h)) control) (k .small)) }
 
@@ -259,6 +264,36 @@ module _ {control line gather answer message : List ℕ} {n : ℕ} (c : 29 ≤ l
             (taken-by (is-event l)
             (record { taken = taken; hears = rw (before-is .is, event .is) at hears; told = told .is; values-are = values .is; kept = hub-kept put }));
       }
+
+-- A block.
+pub block-13 : {control line gather answer message bytes : List ℕ} → Lacking (atLeast 29 control ∷ []) →
+    HubHearsBlock control line gather answer message bytes 13 control line gather answer message (0 ∷ 0 ∷ 0 ∷ 0 ∷ [])
+block-13 k = record { asks = asks-13 k (refl, refl, refl, refl, refl, refl, refl) }
+
+-- A room too small, or too many bytes: nothing is taken.
+module _ {control line gather answer message bytes : List ℕ} (c : 29 ≤ length control) where
+  block-unread : (x : Refusal) → HearsBlock (hubIn control) line gather answer message bytes (refusedBlock (hubIn control) x) line gather answer message →
+      HubHearsBlock control line gather answer message bytes (numberOf x) control line gather answer message (0 ∷ 0 ∷ 0 ∷ 0 ∷ [])
+  block-unread x hears =
+      record { asks = asks-enough (more c none) (record { block = refusedBlock (hubIn control) x; hears = hears; told = refl; values-are = refl; kept = record { control-is = refl; reads = refl } }) }
+
+  pub block-answer : length answer < joining.hubAnswerSize → HubHearsBlock control line gather answer message bytes 13 control line gather answer message (0 ∷ 0 ∷ 0 ∷ 0 ∷ [])
+  unfolding joining.tooSmall
+  block-answer h = block-unread refusal.Room (blocks.block-13 (simp (lt-ltb (length answer) joining.hubAnswerSize h)))
+
+  module _ (a : joining.hubAnswerSize ≤ length answer) where
+    pub block-message : length message < messageSize → HubHearsBlock control line gather answer message bytes 13 control line gather answer message (0 ∷ 0 ∷ 0 ∷ 0 ∷ [])
+    unfolding joining.tooSmall
+    block-message h = block-unread refusal.Room (blocks.block-13 (simp (le-ltb (length answer) joining.hubAnswerSize a, lt-ltb (length message) messageSize h)))
+
+    module _ (m : messageSize ≤ length message) where
+      pub block-long : blockSize < length bytes → HubHearsBlock control line gather answer message bytes 15 control line gather answer message (0 ∷ 0 ∷ 0 ∷ 0 ∷ [])
+      unfolding joining.tooSmall
+      block-long h = block-unread refusal.Long (blocks.block-15 (simp (le-ltb (length answer) joining.hubAnswerSize a, le-ltb (length message) messageSize m)) h)
+
+pub block-reads : {control line gather answer message bytes control′ line′ gather′ answer′ message′ values : List ℕ} {r : ℕ} → 29 ≤ length control →
+    HubTakesBlock control line gather answer message bytes r control′ line′ gather′ answer′ message′ values → HubHearsBlock control line gather answer message bytes r control′ line′ gather′ answer′ message′ values
+block-reads c k = record { asks = asks-enough (more c none) k }
 
 -- ---- the sender
 

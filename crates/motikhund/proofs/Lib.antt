@@ -1,7 +1,9 @@
+pub mod Blocks
 pub mod Calls
 pub mod Reading
 pub mod Refusing
 pub mod ShortWay
 pub mod Storing
 pub mod Telling
+pub mod Turning
 pub mod Unique

@@ -7,7 +7,7 @@ use mathlib.Core.Logic.{_⊎_, inl, inr, ⊎-elim}
 use native.Mathlib.Omega.{arith}
 use lib.Dec.{eqb, ltb}
 use lib.ListN.{length}
-use borrow.Author.Tests.{le-ltb, eq-eqb}
+use borrow.Author.Tests.{le-ltb, eq-eqb, ne-eqb, eqb-true, eqb-false}
 use Rattle.words.specs.Lists.{pick, over, Each, none, one}
 use Rattle.words.proofs.Lists.{over-nil, never, same-refl}
 use Rattle.packet.specs.Packet.{bodyOf, seal, replyBody, written, sizeOf}
@@ -22,6 +22,7 @@ use Rattle.framer.specs.declared.Found.{Found}
 use Rattle.framer.specs.declared.Found.the-variants as found
 use Rattle.framer.proofs.Refusing as framing
 use Rattle.hub.specs.Promises as joining
+use Rattle.hub.specs.Block.{Block}
 use Rattle.hub.specs.declared.Told.{Told}
 use Rattle.hub.specs.declared.Told.the-variants as told
 use Rattle.hub.proofs.Refusing as joining-refuses
@@ -45,14 +46,15 @@ use Rattle.reader.proofs.Refusing as reading-refuses
 use Rattle.reader.proofs.Loading as loading
 use Rattle.motikhund.specs.Lent.{Need, atLeast, Enough, none as no-more, more, Asks, IfNamed, KeptUnless, Made}
 use Rattle.motikhund.specs.Control.{readerControlSize, readerIn, permanentChanged}
-use Rattle.motikhund.specs.Numbers.{replyOf, RefusalNumber, checkedNumber, checkedValues, foundNumber, foundValues, builtNumber, hubNumber, hubValues, outcomeNumber, startValues, isRefused, waitsNumber, readerNumber, readerValues, writtenNumber, verdictNumber}
-use Rattle.motikhund.specs.Promises.{PacketChecks, PacketBuilds, PacketAnswers, FramerIdle, FramerHears, HubOn, HubHears, SenderIdle, SenderStarts, SenderHears, SenderWaits, ReaderOn, ReaderPowersUp, ReaderStarts, ReaderTimesOut, ReaderHears, ReaderValue, ReaderLocked, ReaderSaves, unreadNumber, ReaderLoads, ReaderSwitches}
-use Rattle.motikhund.specs.Refused.{lent, same, Untouched, Refuses13, StartRefuses, LoadRefuses, EventRefuses, FramerTaken, HubTaken, ReaderTaken}
+use Rattle.motikhund.specs.Numbers.{replyOf, RefusalNumber, checkedNumber, checkedValues, foundNumber, foundValues, builtNumber, hubNumber, hubValues, blockValues, outcomeNumber, startValues, isRefused, waitsNumber, readerNumber, readerValues, writtenNumber, verdictNumber}
+use Rattle.motikhund.specs.Promises.{PacketChecks, PacketBuilds, PacketAnswers, FramerIdle, FramerHears, HubOn, HubHears, HubHearsBlock, SenderIdle, SenderStarts, SenderHears, SenderWaits, ReaderOn, ReaderPowersUp, ReaderStarts, ReaderTimesOut, ReaderHears, ReaderValue, ReaderLocked, ReaderSaves, unreadNumber, ReaderLoads, ReaderSwitches}
+use Rattle.motikhund.specs.Refused.{lent, same, Untouched, Refuses13, StartRefuses, LoadRefuses, EventRefuses, BlockRefuses, not-taken, was-taken, FramerTaken, HubTaken, BlockTaken, ReaderTaken}
+use Rattle.motikhund.proofs.Blocks.{none-taken, BlockRefused, at-once, behind-a-byte, block-refused}
 use Rattle.motikhund.proofs.Unique.{decided}
 
 -- ---- numbers of refusals
 
--- They stand between 1 and 13,
+-- They stand between 1 and 15,
 pub number-least : (x : Refusal) → 1 ≤ numberOf x
 number-least refusal.Length = omega arith
 number-least refusal.Checksum = omega arith
@@ -67,8 +69,9 @@ number-least refusal.Barred = omega arith
 number-least refusal.Start = omega arith
 number-least refusal.Form = omega arith
 number-least refusal.Room = omega arith
+number-least refusal.Long = omega arith
 
-pub number-most : (x : Refusal) → numberOf x ≤ 13
+pub number-most : (x : Refusal) → numberOf x ≤ 15
 number-most refusal.Length = omega arith
 number-most refusal.Checksum = omega arith
 number-most refusal.Cut = omega arith
@@ -82,9 +85,10 @@ number-most refusal.Barred = omega arith
 number-most refusal.Start = omega arith
 number-most refusal.Form = omega arith
 number-most refusal.Room = omega arith
+number-most refusal.Long = omega arith
 
 -- so that nothing else that is told has one of them,
-not-told : {A : Type 0} {n : ℕ} {x : Refusal} → RefusalNumber x n → (n < 1) ⊎ (13 < n) → A
+not-told : {A : Type 0} {n : ℕ} {x : Refusal} → RefusalNumber x n → (n < 1) ⊎ (15 < n) → A
 not-told {x = x} q (inl h) = let l = number-least x in let e = q .is in absurd (omega arith)
 not-told {x = x} q (inr h) = let m = number-most x in let e = q .is in absurd (omega arith)
 
@@ -102,7 +106,8 @@ refusalOf n =
     (pick (eqb n 9) refusal.Setting
     (pick (eqb n 10) refusal.Barred
     (pick (eqb n 11) refusal.Start
-    (pick (eqb n 12) refusal.Form refusal.Room)))))))))))
+    (pick (eqb n 12) refusal.Form
+    (pick (eqb n 13) refusal.Room refusal.Long))))))))))))
 
 number-back : (x : Refusal) → refusalOf (numberOf x) ≡ x
 unfolding refusalOf
@@ -119,6 +124,7 @@ number-back refusal.Barred = refl
 number-back refusal.Start = refl
 number-back refusal.Form = refl
 number-back refusal.Room = refl
+number-back refusal.Long = refl
 
 pub same-number : {x y : Refusal} → RefusalNumber x (numberOf y) → y ≡ x
 same-number {x} {y} q = sym (number-back y) ∙ (ap refusalOf (q .is) ∙ number-back x)
@@ -459,6 +465,53 @@ hub-hear-refuses k q =
       by-13 = λ z. absurd (not-13 q (hub-room e) (g .number-13) z);
       by-others = λ h. record { taken = a .taken; kept = a .kept; refuses = g; values-are = a .values-are ∙ ap (λ (t : Told). hubValues t (a .taken .answer)) f };
     }))
+
+-- `mk_hub_hear_block`: the bytes are only read.
+one-or-two : {n : ℕ} (d : Bool) → eqb n 1 ≡ d → 1 ≤ n → n < 3 → (n ≡ 1) ⊎ (n ≡ 2)
+one-or-two {n} true e l m = inl (eqb-true n 1 e)
+one-or-two {n} false e l m = inr (let h = eqb-false n 1 e in omega arith)
+
+by-refused : {P : Type 0} {r : ℕ} {x : Refusal} {block : Block} → RefusalNumber x r → BlockRefused x block → ((r ≡ 13) ⊎ (r ≡ 15) → block .taken ≡ 0 → P) →
+    ((r ≡ 1) ⊎ (r ≡ 2) → (block .taken ≡ 0 → ⊥) → P) → P
+by-refused q (at-once (inl n) z) out behind = out (inl (q .is ∙ n)) z
+by-refused q (at-once (inr n) z) out behind = out (inr (q .is ∙ n)) z
+by-refused {r = r} {x} q (behind-a-byte l z) out behind = behind (let m = number-least x in let e = q .is in one-or-two (eqb r 1) refl (omega arith) (omega arith)) z
+
+block-untouched : {control control′ line line′ gather gather′ answer answer′ message message′ values : List ℕ} →
+    control′ ≡ control →
+    line′ ≡ line →
+    gather′ ≡ gather →
+    answer′ ≡ answer →
+    message′ ≡ message →
+    values ≡ 0 ∷ 0 ∷ 0 ∷ 0 ∷ [] →
+    Untouched (lent control control′ ∷ lent line line′ ∷ lent gather gather′ ∷ lent answer answer′ ∷ lent message message′ ∷ []) values
+block-untouched c l g a m v = record { buffers-same = one (same c) (one (same l) (one (same g) (one (same a) (one (same m) none)))); values-zero = zeros-4 v }
+
+pub hub-hear-block-refuses : {control line gather answer message bytes control′ line′ gather′ answer′ message′ values : List ℕ} {r : ℕ} {x : Refusal} →
+    HubHearsBlock control line gather answer message bytes r control′ line′ gather′ answer′ message′ values →
+    RefusalNumber x r →
+    BlockRefuses r (lent control control′ ∷ lent line line′ ∷ lent gather gather′ ∷ lent answer answer′ ∷ lent message message′ ∷ []) values
+    (BlockTaken x bytes control control′ line line′ gather gather′ answer answer′ message message′ values)
+hub-hear-block-refuses k q =
+    by-asks (k .asks) (λ a. not-taken (inl (a .0)) (block-untouched (a .1) (a .2) (a .3) (a .4) (a .5) (a .6)))
+    (λ e a.
+    let f = hub-refused (a .block .told) (told-as (a .told) q) in
+    let v = a .values-are ∙ ap (λ (t : Told). blockValues t (a .block .answer) (a .block .taken)) f in
+    by-refused q (block-refused (a .hears) f)
+    (λ n z.
+    let s = none-taken (a .hears) z in
+    not-taken n
+    (block-untouched (a .kept .control-is ∙ simp (eq-eqb (a .block .taken) 0 z)) (s .line-same) (s .gather-same) (s .answer-same) (s .message-same) (v ∙ rw (s .no-answer, z) refl)))
+    (λ n h.
+    was-taken n
+    (record {
+      block = a .block;
+      hears = a .hears;
+      kept = rw (ne-eqb (a .block .taken) 0 h) at (a .kept);
+      refuses = f;
+      some = omega arith;
+      values-are = v;
+    })))
 
 quiet-values : (before after : Reader) {t : Commanded} {o : Outcome} {answer : ℕ} {values : List ℕ} {x : Refusal} → t ≡ commanded.Refused x → o ≡ outcome.Nothing → after .device ≡ before .device →
     values ≡ readerValues t answer o (permanentChanged before after) → values ≡ answer ∷ 0 ∷ 0 ∷ 0 ∷ 0 ∷ 0 ∷ []

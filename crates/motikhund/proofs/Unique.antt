@@ -4,7 +4,7 @@ use mathlib.Core.Path.{_≡_, refl, sym, ap, _∙_}
 use mathlib.Core.Bool.{Bool, true, false}
 use mathlib.Core.List.{List, [], _∷_}
 use mathlib.Core.Logic.{_⊎_, inl, inr, ⊎-elim}
-use lib.Dec.{ltb}
+use lib.Dec.{eqb, ltb}
 use lib.ListN.{length}
 use borrow.Author.Tests.{ltb-true, ltb-false}
 use Rattle.packet.specs.Packet.{sizeOf}
@@ -16,6 +16,7 @@ use Rattle.framer.specs.declared.Going.{Going}
 use Rattle.framer.specs.declared.Going.the-variants.{On, Woken, Left}
 use Rattle.hub.proofs.Unique as joining
 use Rattle.hub.specs.declared.Taken.{Taken}
+use Rattle.hub.specs.Block.{Block}
 use Rattle.sender.proofs.Unique as sending
 use Rattle.sender.specs.declared.Sending.{Sending}
 use Rattle.sender.specs.declared.Outcome.{Outcome}
@@ -28,8 +29,8 @@ use Rattle.reader.specs.declared.Started.{Started}
 use Rattle.reader.specs.declared.Loaded.{Loaded}
 use Rattle.motikhund.specs.Lent.{Need, atLeast, Lacking, here, there, Enough, none, more, Asks, IfNamed, KeptUnless, Kept, Made}
 use Rattle.motikhund.specs.Control.{flagByte, readerIn, permanentChanged}
-use Rattle.motikhund.specs.Numbers.{checkedNumber, checkedValues, heardNumber, foundNumber, foundValues, builtNumber, hubNumber, hubValues, outcomeNumber, outcomeValue, startValues, isRefused, waitsNumber, readerNumber, readerValues, writtenNumber, writtenSize, verdictNumber, isUnread}
-use Rattle.motikhund.specs.Promises.{PacketChecks, PacketBuilds, PacketAnswers, FramerIdle, FramerHears, wentOn, FrontAfter, GoesOn, HubOn, HubHears, SenderIdle, Brings, Begins, SenderStarts, SenderHears, SenderWaits, SenderHeeds, FreshReader, ReaderOn, ReaderPowersUp, ReaderStarts, ReaderTimesOut, ReaderHears, ReaderValue, ReaderLocked, ReaderSaves, ReaderLoads, ReaderSwitches}
+use Rattle.motikhund.specs.Numbers.{checkedNumber, checkedValues, heardNumber, foundNumber, foundValues, builtNumber, hubNumber, hubValues, blockValues, outcomeNumber, outcomeValue, startValues, isRefused, waitsNumber, readerNumber, readerValues, writtenNumber, writtenSize, verdictNumber, isUnread}
+use Rattle.motikhund.specs.Promises.{PacketChecks, PacketBuilds, PacketAnswers, FramerIdle, FramerHears, wentOn, FrontAfter, GoesOn, HubOn, HubHears, HubHearsBlock, SenderIdle, Brings, Begins, SenderStarts, SenderHears, SenderWaits, SenderHeeds, FreshReader, ReaderOn, ReaderPowersUp, ReaderStarts, ReaderTimesOut, ReaderHears, ReaderValue, ReaderLocked, ReaderSaves, ReaderLoads, ReaderSwitches}
 
 -- ---- what is lent
 
@@ -194,6 +195,23 @@ hub-hear-unique p q =
       u .4,
       numbered (λ (x : Taken). hubValues (x .told) (x .answer)) (u .0) (a .values-are) (b .values-are),
     )))
+
+pub hub-hear-block-unique : {control line gather answer message bytes control₁ line₁ gather₁ answer₁ message₁ values₁ control₂ line₂ gather₂ answer₂ message₂ values₂ : List ℕ} {r r′ : ℕ} →
+    HubHearsBlock control line gather answer message bytes r control₁ line₁ gather₁ answer₁ message₁ values₁ →
+    HubHearsBlock control line gather answer message bytes r′ control₂ line₂ gather₂ answer₂ message₂ values₂ →
+    (r ≡ r′) × (control₁ ≡ control₂) × (line₁ ≡ line₂) × (gather₁ ≡ gather₂) × (answer₁ ≡ answer₂) × (message₁ ≡ message₂) × (values₁ ≡ values₂)
+hub-hear-block-unique p q =
+    asks-unique (p .asks) (q .asks) (λ a b. stays-7 a b)
+    (λ a b.
+    let u = joining.hear-block-unique (a .hears) (b .hears) in (
+      numbered (λ (x : Block). hubNumber (x .told)) (u .0) (a .told) (b .told),
+      same-start (λ (x : Block). eqb (x .taken) 0) (λ (x : Block). x .hub) (u .0) (a .kept) (b .kept),
+      u .1,
+      u .2,
+      u .3,
+      u .4,
+      numbered (λ (x : Block). blockValues (x .told) (x .answer) (x .taken)) (u .0) (a .values-are) (b .values-are),
+    ))
 
 -- ---- the sender
 

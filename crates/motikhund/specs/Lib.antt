@@ -1,3 +1,4 @@
+pub mod Blocks
 pub mod Control
 pub mod Lent
 pub mod Numbers

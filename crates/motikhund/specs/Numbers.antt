@@ -107,6 +107,10 @@ hubValues told.Repeated answer = answer ∷ 0 ∷ 0 ∷ []
 hubValues (told.Message code count) answer = answer ∷ code ∷ count ∷ []
 hubValues (told.Refused r) answer = answer ∷ 0 ∷ 0 ∷ []
 
+-- The same of a block, and behind them how many bytes were taken.
+abbrev pub blockValues : Told → ℕ → ℕ → List ℕ
+blockValues t answer taken = hubValues t answer ++ (taken ∷ [])
+
 -- The sender: how many bytes of a copy stand in the room, or the marked copies of the message that has ended.
 abbrev pub outcomeNumber : Outcome → ℕ
 outcomeNumber outcome.Nothing = 0

@@ -1,11 +1,12 @@
 -- What each exported call promises. A control value under its size, or a room under what the call asks for, is number 13 with
 -- nothing changed; then a number that names no event or reply does nothing. Else it is the library's call on what the bytes read as, with
 -- that call's own promise; what it told stands in numbers, and the control bytes afterwards are those of the control value that it left, or
--- as they were where a start or a saved set was refused. Only the short way writes less of them.
+-- as they were where a start or a saved set was refused, or no byte of a block was taken. Only the short way writes less of them.
 use Prim.Native.Nat.{ℕ}
 use mathlib.Core.Bool.{Bool, true, false}
 use mathlib.Core.List.{List, [], _∷_}
 use mathlib.Core.Path.{_≡_}
+use lib.Dec.{eqb}
 use Rattle.packet.specs.Opcodes.{host}
 use Rattle.packet.specs.Packet.{sizeOf}
 use Rattle.packet.specs.Promises as packet
@@ -20,6 +21,7 @@ use Rattle.framer.specs.declared.Going.{Going}
 use Rattle.framer.specs.declared.Going.the-variants.{On, Woken, Left}
 use Rattle.framer.specs.declared.Framed.{Framed}
 use Rattle.hub.specs.Promises as joining
+use Rattle.hub.specs.Block.{Block, HearsBlock}
 use Rattle.hub.specs.declared.Taken.{Taken}
 use Rattle.sender.specs.Promises as sending
 use Rattle.sender.specs.declared.Heard.{Heard}
@@ -39,7 +41,7 @@ use Rattle.reader.specs.declared.Started.{Started}
 use Rattle.reader.specs.declared.Loaded.{Loaded}
 use Rattle.motikhund.specs.Lent.{atLeast, Asks, IfNamed, KeptUnless, Kept, Made}
 use Rattle.motikhund.specs.Control.{framerControlSize, hubControlSize, senderControlSize, readerControlSize, numberIn, numberBytes, flagIn, flagByte, framerIn, framerBytes, hubIn, hubBytes, senderIn, senderBytes, readerIn, readerBytes, switchValues, permanentChanged}
-use Rattle.motikhund.specs.Numbers.{isEvent, eventOf, heardOf, heardNumber, isReply, replyOf, noHead, checkedNumber, checkedValues, foundNumber, foundValues, builtNumber, hubNumber, hubValues, outcomeNumber, outcomeValue, startValues, isRefused, waitsNumber, readerNumber, readerValues, writtenNumber, writtenSize, verdictNumber, isUnread}
+use Rattle.motikhund.specs.Numbers.{isEvent, eventOf, heardOf, heardNumber, isReply, replyOf, noHead, checkedNumber, checkedValues, foundNumber, foundValues, builtNumber, hubNumber, hubValues, blockValues, outcomeNumber, outcomeValue, startValues, isRefused, waitsNumber, readerNumber, readerValues, writtenNumber, writtenSize, verdictNumber, isUnread}
 
 -- ---- the packet: each call asks for its own room
 
@@ -132,6 +134,20 @@ pub record HubHears (control line gather answer message : List ℕ) (event r : �
       (HubStays 13 control line gather answer message r control′ line′ gather′ answer′ message′ values)
       (IfNamed (isEvent event) (HubStays 0 control line gather answer message r control′ line′ gather′ answer′ message′ values)
       (HubTakes control line gather answer message event r control′ line′ gather′ answer′ message′ values))
+
+-- A block. Where no byte was taken the control bytes are left alone: refused calls change nothing, and no bytes do nothing.
+pub record HubTakesBlock (control line gather answer message bytes : List ℕ) (r : ℕ) (control′ line′ gather′ answer′ message′ values : List ℕ) : Type 0 where
+  pub block : Block
+  pub hears : HearsBlock (hubIn control) line gather answer message bytes block line′ gather′ answer′ message′
+  pub told : r ≡ hubNumber (block .told)
+  pub values-are : values ≡ blockValues (block .told) (block .answer) (block .taken)
+  pub kept : KeptUnless (eqb (block .taken) 0) hubIn hubBytes (block .hub) control control′
+
+pub record HubHearsBlock (control line gather answer message bytes : List ℕ) (r : ℕ) (control′ line′ gather′ answer′ message′ values : List ℕ) : Type 0 where
+  pub asks :
+      Asks (atLeast hubControlSize control ∷ [])
+      ((r ≡ 13) × (control′ ≡ control) × (line′ ≡ line) × (gather′ ≡ gather) × (answer′ ≡ answer) × (message′ ≡ message) × (values ≡ 0 ∷ 0 ∷ 0 ∷ 0 ∷ []))
+      (HubTakesBlock control line gather answer message bytes r control′ line′ gather′ answer′ message′ values)
 
 -- ---- the sender
 

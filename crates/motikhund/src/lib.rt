@@ -1,6 +1,7 @@
 // The library for other languages: every machine over bytes and numbers. The caller keeps a control value as bytes (`control`),
 // what is told comes back as numbers (`numbers`), and no call trusts its caller: whatever is lent too small is number 13, with
 // nothing changed; a number that names no event or reply does nothing.
+mod block;
 mod control;
 mod numbers;
 
@@ -9,10 +10,12 @@ use control::GOING_SIZE;
 use control::HUB_CONTROL_SIZE;
 use control::READER_CONTROL_SIZE;
 use control::SENDER_CONTROL_SIZE;
-ghost use Rattle.motikhund.specs.Promises.{PacketChecks, PacketBuilds, PacketAnswers, FramerIdle, FramerHears, GoesOn, HubOn, HubHears, SenderIdle, SenderStarts, SenderHears, SenderWaits, SenderHeeds, ReaderOn, ReaderPowersUp, ReaderStarts, ReaderTimesOut, ReaderHears, ReaderValue, ReaderLocked, ReaderSaves, ReaderLoads, ReaderSwitches};
+ghost use Rattle.motikhund.specs.Promises.{PacketChecks, PacketBuilds, PacketAnswers, FramerIdle, FramerHears, GoesOn, HubOn, HubHears, HubHearsBlock, SenderIdle, SenderStarts, SenderHears, SenderWaits, SenderHeeds, ReaderOn, ReaderPowersUp, ReaderStarts, ReaderTimesOut, ReaderHears, ReaderValue, ReaderLocked, ReaderSaves, ReaderLoads, ReaderSwitches};
 
 // Lent room too small.
 const ROOM: u32 = 13;
+// More bytes than a call takes.
+const LONG: u32 = 15;
 // The largest numbers that name an event and a reply.
 const LAST_EVENT: u32 = 257;
 
@@ -194,6 +197,42 @@ pub extern "C" fn mk_hub_hear(
     control::put_hub(next, control);
     numbers::hub_values(told, taken.answer, values);
     numbers::hub(told)
+}
+
+// Many bytes with no gap among them, in one call: 112 a message stands in the message room, refusal 1 or 2 where one fell, 13, 15, or 0.
+// The values are the size of all answers, the message's code type and its size, and how many bytes were taken. Where none was, the
+// control bytes are left alone.
+#[no_mangle]
+pub extern "C" fn mk_hub_hear_block(
+    control: &mut [u8],
+    line: &mut [u8; framer::LINE_SIZE],
+    gather: &mut [u8; packet::MESSAGE_SIZE],
+    answer: &mut [u8],
+    message: &mut [u8],
+    bytes: &[u8],
+    values: &mut [usize; 4],
+) -> u32
+    ensures { λ r. ⌜ HubHearsBlock (now (control .entry)) (now (line .entry)) (now (gather .entry)) (now (answer .entry)) (now (message .entry)) (now (bytes .entry)) r (now (control .exit)) (now (line .exit)) (now (gather .exit)) (now (answer .exit)) (now (message .exit)) (now (values .exit)) ⌝ }
+{
+    if control.len() < HUB_CONTROL_SIZE {
+        *values = [0; 4];
+        return ROOM;
+    }
+    if answer.len() < hub::HUB_ANSWER_SIZE {
+        *values = [0; 4];
+        return ROOM;
+    }
+    if message.len() < packet::MESSAGE_SIZE {
+        *values = [0; 4];
+        return ROOM;
+    }
+    if hub::BLOCK_SIZE < bytes.len() {
+        *values = [0; 4];
+        return LONG;
+    }
+    let brought = block::read(control, line, gather, answer, message, bytes);
+    *values = [brought.answer, brought.code, brought.count, brought.taken];
+    brought.told
 }
 
 // ---- the sender

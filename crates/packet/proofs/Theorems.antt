@@ -17,7 +17,7 @@ use Rattle.packet.specs.Packet.{bodyOf, sumOf, checksumOf, seal, bodyIn,
 use Rattle.packet.specs.Promises.{Check}
 use Rattle.packet.specs.Refusals.{numberOf, causeOf}
 use Rattle.packet.specs.declared.Refusal.{Refusal}
-use Rattle.packet.specs.declared.Refusal.the-variants.{Length, Checksum, Cut, Source, Status, Opcode, Data, Beep, Setting, Barred, Start, Form, Room}
+use Rattle.packet.specs.declared.Refusal.the-variants.{Length, Checksum, Cut, Source, Status, Opcode, Data, Beep, Setting, Barred, Start, Form, Room, Long}
 use Rattle.packet.specs.declared.Head.{Head}
 use Rattle.packet.specs.declared.Checked.the-variants.{Packet, Refused}
 use Rattle.packet.proofs.Judge.{check-right}
@@ -326,3 +326,4 @@ answered-number Barred n = refl
 answered-number Start n = refl
 answered-number Form n = refl
 answered-number Room n = absurd (n refl)
+answered-number Long n = refl

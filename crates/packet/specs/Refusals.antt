@@ -11,7 +11,7 @@ use Rattle.packet.specs.declared.Built.{Built}
 use Rattle.packet.specs.declared.Built.the-variants as built
 use Rattle.packet.specs.declared.Reply.the-variants.{Nak}
 use Rattle.packet.specs.declared.Refusal.{Refusal}
-use Rattle.packet.specs.declared.Refusal.the-variants.{Length, Checksum, Cut, Source, Status, Opcode, Data, Beep, Setting, Barred, Start, Form, Room}
+use Rattle.packet.specs.declared.Refusal.the-variants.{Length, Checksum, Cut, Source, Status, Opcode, Data, Beep, Setting, Barred, Start, Form, Room, Long}
 
 abbrev pub numberOf : Refusal → ℕ
 numberOf Length = 1
@@ -27,6 +27,7 @@ numberOf Barred = 10
 numberOf Start = 11
 numberOf Form = 12
 numberOf Room = 13
+numberOf Long = 15
 
 -- The cause byte: 1 resend, 2 bad context, 6 denied; 0 where nothing goes out.
 abbrev pub causeOf : Refusal → ℕ
@@ -43,6 +44,7 @@ causeOf Barred = 6
 causeOf Start = 0
 causeOf Form = 0
 causeOf Room = 0
+causeOf Long = 0
 
 -- The bytes that answer a refusal: NAK with its cause, and none for those that nothing answers.
 unfoldable pub nakBytes : ℕ → Refusal → List ℕ

@@ -81,6 +81,8 @@ pub enum Refusal {
     Form,
     // lent room too small
     Room,
+    // more bytes than a call takes
+    Long,
 }
 
 // What stands before the data. The length doesn't count the checksum.
@@ -127,6 +129,7 @@ pub fn number(refusal: Refusal) -> u8
         Refusal::Start => 11,
         Refusal::Form => 12,
         Refusal::Room => 13,
+        Refusal::Long => 15,
     }
 }
 
@@ -148,6 +151,7 @@ pub fn cause(refusal: Refusal) -> u8
         Refusal::Start => 0,
         Refusal::Form => 0,
         Refusal::Room => 0,
+        Refusal::Long => 0,
     }
 }
 

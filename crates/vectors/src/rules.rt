@@ -75,12 +75,13 @@ fn numbers(t: Tally) -> Tally {
         packet::number(Refusal::Start),
         packet::number(Refusal::Form),
         packet::number(Refusal::Room),
+        packet::number(Refusal::Long),
     ];
     listed(
         t,
         b"NUMBERS",
         &found,
-        b"\x01\x02\x03\x04\x05\x06\x07\x08\x09\x0A\x0B\x0C\x0D",
+        b"\x01\x02\x03\x04\x05\x06\x07\x08\x09\x0A\x0B\x0C\x0D\x0F",
     )
 }
 
@@ -99,12 +100,13 @@ fn causes(t: Tally) -> Tally {
         packet::cause(Refusal::Start),
         packet::cause(Refusal::Form),
         packet::cause(Refusal::Room),
+        packet::cause(Refusal::Long),
     ];
     listed(
         t,
         b"CAUSES",
         &found,
-        b"\x01\x01\x01\x02\x02\x02\x02\x06\x06\x06\x00\x00\x00",
+        b"\x01\x01\x01\x02\x02\x02\x02\x06\x06\x06\x00\x00\x00\x00",
     )
 }
 

@@ -8,7 +8,7 @@ use native.Mathlib.Numerals.{add-one}
 use native.Mathlib.Omega.{arith}
 use lib.Dec.{eqb}
 use lib.ListN.{length, getD, take, drop, set, take-append-drop, length-append, length-take, length-drop}
-use lib.Seq.{set-split, take-at, drop-at, drop-append-add, take-length, length-take-le, drop-drop, take-all, drop-cons, take-append-le, drop-append-le}
+use lib.Seq.{set-split, take-at, drop-at, take-append-add, drop-append-add, take-length, length-take-le, drop-drop, take-all, drop-cons, take-append-le, drop-append-le}
 use borrow.Author.Tests.{eq-eqb, ne-eqb, eqb-true}
 use Rattle.words.specs.Lists.{both, Bytes, over, overAt, Copied, sameBytes, either}
 
@@ -129,6 +129,17 @@ unfolding over overAt
 over-behind n p q room e =
     rw (take-at p (drop (length p) room) n e, drop-at p (drop (length p) room) n e)
     (sym (append-assoc p q (drop (length (p ++ q)) room) ∙ ap (λ (l : List ℕ). p ++ (q ++ l)) (rw (length-append p q) (sym (drop-drop (length q) (length p) room)))))
+
+-- The same from a place on.
+pub overAt-behind : (i m : ℕ) (p q room : List ℕ) → m ≡ i + length p → i ≤ length room → overAt m q (overAt i p room) ≡ overAt i (p ++ q) room
+unfolding overAt
+overAt-behind i m p q room e h =
+    let front = take i room in
+    let long : length front ≡ i = length-take-le i room h in
+    let rest = over p (drop i room) in
+    let place : m ≡ length front + length p = omega arith in
+    rw (place, take-append-add front rest (length p), drop-append-add front rest (length p), append-assoc front (take (length p) rest) (over q (drop (length p) rest)))
+    (ap (λ (l : List ℕ). front ++ l) (over-behind (length p) p q (drop i room) refl))
 
 -- ---- a part that was lent and has come back
 

@@ -1,8 +1,14 @@
 -- Laws of runs. Assumes nothing.
-use mathlib.Core.Path.{_≡_, refl, ap}
+use Prim.Native.Nat.{ℕ, suc, _+_, _≤_}
+use mathlib.Core.Bool.{Bool, true, false}
+use mathlib.Core.Path.{_≡_, refl, sym, ap, _∙_}
 use mathlib.Core.List.{List, [], _∷_, _++_, append-assoc, append-nil}
-use Rattle.words.specs.Lists.{Each, none, one}
-use Rattle.words.specs.Machine.{Done, after, through}
+use native.Mathlib.Nat.{zero-add}
+use native.Mathlib.Omega.{arith}
+use lib.ListN.{length}
+use Rattle.words.specs.Lists.{pick, Each, none, one}
+use Rattle.words.specs.Machine.{Done, after, through, reach}
+use Rattle.words.proofs.Lists.{never}
 
 -- A run over two lists is the run over the first and then, from where it ended, over the second.
 pub through-append : {S I O : Type 0} (step : S → I → Done S O) (s : S) (xs ys : List I) →
@@ -15,6 +21,47 @@ through-append step s (x ∷ xs) ys = rw (through-append step (step s x .next) x
 pub through-one : {S I O : Type 0} (step : S → I → Done S O) (s : S) (i : I) → through step s (i ∷ []) ≡ step s i
 unfolding through after
 through-one {O = O} step s i = ap (λ (t : List O). record { next = step s i .next; told = t }) (append-nil (step s i .told))
+
+-- ---- how far a run goes that stops
+
+-- Nothing in both.
+pub append-none : {A : Type 0} {xs ys : List A} → xs ++ ys ≡ [] → (xs ≡ []) × (ys ≡ [])
+append-none {xs = []} e = (refl, e)
+append-none {xs = x ∷ xs} e = never (cc)
+
+module _ {S I O : Type 0} (step : S → I → Done S O) (stops : List O → Bool) where
+  pub reach-stopped : (s : S) (told : List O) (is : List I) → stops told ≡ true → reach step stops s told is ≡ 0
+  unfolding reach
+  reach-stopped s told [] e = refl
+  reach-stopped s told (i ∷ is) e = simp e
+
+  pub reach-one : (s : S) (told : List O) (i : I) (is : List I) → stops told ≡ false → reach step stops s told (i ∷ is) ≡ suc (reach step stops (step s i .next) (told ++ step s i .told) is)
+  unfolding reach
+  reach-one s told i is e = simp e
+
+  -- Inputs of which nothing is told are taken.
+  pub reach-silent : (s s′ : S) (told : List O) (is js : List I) → stops told ≡ false → through step s is ≡ record { next = s′; told = [] } →
+      reach step stops s told (is ++ js) ≡ length is + reach step stops s′ told js
+  unfolding through after
+  reach-silent s s′ told [] js e r = rw (ap (λ (d : Done S O). d .next) r) (sym (zero-add (reach step stops s′ told js)))
+  reach-silent s s′ told (i ∷ is) js e r =
+      let t = append-none {xs = step s i .told} {ys = through step (step s i .next) is .told} (ap (λ (d : Done S O). d .told) r) in
+      let same : through step (step s i .next) is ≡ record { next = s′; told = [] } = rw (← ap (λ (d : Done S O). d .next) r, ← t .1) refl in
+      let rest = reach-silent (step s i .next) s′ told is js e same in
+      let one : reach step stops s told (i ∷ is ++ js) ≡ suc (reach step stops (step s i .next) told (is ++ js)) = reach-one s told i (is ++ js) e ∙ rw (t .0, append-nil told) refl in
+      omega (arith, one, rest)
+
+  pub reach-most : (s : S) (told : List O) (is : List I) → reach step stops s told is ≤ length is
+  unfolding reach
+  reach-most s told [] = omega arith
+  reach-most s told (i ∷ is) = by (stops told) (reach-most (step s i .next) (told ++ step s i .told) is)
+    where
+      by : (d : Bool) → reach step stops (step s i .next) (told ++ step s i .told) is ≤ length is →
+          pick d 0 (suc (reach step stops (step s i .next) (told ++ step s i .told) is)) ≤ suc (length is)
+      by true h = omega arith
+      by false h = omega arith
+
+-- ---- what holds of each
 
 pub each-all : {A : Type 0} {P : A → Type 0} → ((x : A) → P x) → (xs : List A) → Each P xs
 each-all f [] = none

@@ -88,8 +88,9 @@ pub const READER_ENDINGS: [&[u8]; 53] = [
     b"3L 01 ;",
 ];
 
-/// Desk's own token not ended, with too few or too many pairs, or with something else inside; and later requests' ones.
-pub const DESK_HUB_ENDINGS: [&[u8]; 33] = [
+/// Desk's own tokens not ended, with too few or too many pairs, or with something else inside; and those of later
+/// requests.
+pub const DESK_HUB_ENDINGS: [&[u8]; 54] = [
     b"",
     b"\t",
     b"0",
@@ -116,7 +117,28 @@ pub const DESK_HUB_ENDINGS: [&[u8]; 33] = [
     b"K 00 06 ]",
     b"[ 03 ]",
     b"[ ]",
+    b"[]",
+    b"[03]",
+    b"[\r\n03\n]",
+    b"[",
+    b"[ 03",
+    b"[ 0",
+    b"[ 06 F3 ] [ 00 ] .",
+    b"[ 06 F3 ] 00 .",
     b"]",
+    b"] [ 03 ]",
+    b"[ 03 ] ]",
+    b"[ [ 03 ] ]",
+    b"[ 0 3 ]",
+    b"[ 0 ]",
+    b"[ 03\t]",
+    b"[ 03 ;",
+    b"[ 03 . ]",
+    b"[ 03 / ]",
+    b"[ K 00 06 ; ]",
+    b"K [ 00 06 ]",
+    b"K 00 [ 06 ;",
+    b"3[ 03 ]",
     b"S 00 ;",
     b"V 00 ;",
     b"Q 80 ;",

@@ -47,12 +47,12 @@ impl Line for FromHost {
     fn take(&mut self, event: LineEvent) {
         self.hand.pen.line(event);
         let before = ReaderLook::at(&self.reader);
-        let step = self.reader.take_in_room(event, self.hand.room);
+        let step = self.reader.take_in_room(event, self.hand.room());
         self.watch.line(before, event, &step, &self.reader);
     }
 
     fn room_set(&mut self) {
-        self.watch.room_set(self.hand.room);
+        self.watch.room_set(self.hand.room());
     }
 
     fn framer(&self) -> &Framer {

@@ -1,6 +1,7 @@
 //! Seeded streams made to find differences. Each is written beside a machine of this program, so that it knows which
 //! state it has reached and can steer for the rare ones.
 
+mod blocks;
 mod cards;
 mod damage;
 mod endings;
@@ -100,7 +101,7 @@ pub fn sweep(kind: Kind) -> Stream {
 }
 
 fn swept<L: Line>(mut line: L, sweep: fn(&mut L)) -> Stream {
-    line.hand().rooms = None;
+    line.draw_nothing();
     sweep(&mut line);
     line.done()
 }
@@ -113,10 +114,12 @@ struct Hand {
     pen: Pen,
     /// Packets sent not long ago.
     kept: Vec<Vec<u8>>,
-    /// The size of the answer room.
-    room: usize,
+    /// The size of the answer room, where it has been set.
+    room: Option<usize>,
     /// Draws others, in desk's streams.
     rooms: Option<Rooms>,
+    /// Packets follow one another without a gap.
+    joined: bool,
 }
 
 impl Hand {
@@ -124,7 +127,12 @@ impl Hand {
     fn new(seed: u64, need: Option<usize>) -> Hand {
         // Far from the pen's seed, so that rooms and spacing have nothing to do with each other.
         let rooms = need.map(|need| Rooms::new(!seed, need));
-        Hand { pen: Pen::new(seed), kept: Vec::new(), room: LONGEST, rooms }
+        Hand { pen: Pen::new(seed), kept: Vec::new(), room: None, rooms, joined: false }
+    }
+
+    /// The size of an event's answer room.
+    fn room(&self) -> usize {
+        self.room.unwrap_or(LONGEST)
     }
 
     fn done(self, sights: Sights) -> Stream {
@@ -153,6 +161,12 @@ trait Line: Sized {
     fn room_set(&mut self);
     /// What else of desk's may stand before an event.
     fn aside(&mut self) {}
+    /// Writes what has been taken and is not yet in the text.
+    fn flush(&mut self) {}
+    /// From here on no room and no block comes that is not asked for.
+    fn draw_nothing(&mut self) {
+        self.hand().rooms = None;
+    }
     fn done(self) -> Stream;
 
     fn stream(mut self, events: u64, endings: Option<Endings>) -> Stream {
@@ -164,13 +178,15 @@ trait Line: Sized {
                 self.step();
             }
         }
+        self.flush();
         endings.into_iter().for_each(|endings| self.hand().pen.ending(endings));
         self.done()
     }
 
     fn set_room(&mut self, room: usize) {
+        self.flush();
         self.hand().pen.room(room);
-        self.hand().room = room;
+        self.hand().room = Some(room);
         self.room_set();
     }
 
@@ -258,6 +274,9 @@ trait Line: Sized {
 
     /// What comes after a packet: mostly its gap, sometimes nothing, so that the next one is joined to it.
     fn after_packet(&mut self) {
+        if self.hand().joined {
+            return;
+        }
         match self.dice().weigh(&[72, 18, 5, 5]) {
             0 => self.event(LineEvent::Gap),
             1 => {}

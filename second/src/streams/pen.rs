@@ -60,12 +60,22 @@ impl Pen {
         self.token(b'L', form);
     }
 
+    /// `[`, the bytes, `]`: so many events.
+    pub fn block(&mut self, bytes: &[u8], events: usize) {
+        self.events += events as u64;
+        self.enclosed(b'[', bytes, b']');
+    }
+
     fn token(&mut self, letter: u8, bytes: &[u8]) {
-        self.aside(letter);
+        self.enclosed(letter, bytes, b';');
+    }
+
+    fn enclosed(&mut self, first: u8, bytes: &[u8], last: u8) {
+        self.aside(first);
         for byte in bytes {
             self.pair(*byte);
         }
-        self.aside(b';');
+        self.aside(last);
     }
 
     fn pair(&mut self, byte: u8) {

@@ -2,8 +2,10 @@
 
 use crate::dice::Dice;
 
-/// Sizes around every need, and two where one byte alone would tell the wrong size.
-pub const SIZES: [usize; 15] = [0, 1, 6, 7, 8, 24, 25, 26, 255, 256, 257, 0x0600, 0x1800, 0xFF00, 65_535];
+/// Sizes around every need, also that of several answers in a block; and two where one byte alone would tell the wrong
+/// size.
+const SIZES: [usize; 21] =
+    [0, 1, 6, 7, 8, 12, 13, 14, 19, 20, 21, 24, 25, 26, 255, 256, 257, 0x0600, 0x1800, 0xFF00, 65_535];
 
 pub struct Rooms {
     dice: Dice,

@@ -1,13 +1,13 @@
 //! What is few enough to be tried whole: every opcode with every status, every source, every data length, every code
 //! and every pair, every byte of a saved set's form and every choice of locks, cards of every size after equal ones,
-//! and pieces that are unlike in any one place. These streams have no seed.
+//! pieces that are unlike in any one place, and blocks cut at every place. These streams have no seed.
 
 use super::from_host::FromHost;
 use super::from_reader::FromReader;
 use super::Line;
 use crate::form::{load, save, LONGEST_FORM, WITHOUT_LOCKS};
 use crate::framer::LineEvent;
-use crate::hub::LONGEST_MESSAGE;
+use crate::hub::{LONGEST_BLOCK, LONGEST_MESSAGE};
 use crate::packet::*;
 use crate::sender::PIECE;
 use crate::table::{allowed, Table, NO_BEEP, ROWS};
@@ -307,7 +307,14 @@ fn rooms_in_states<L: Line>(stream: &mut L, states: &[Vec<u8>], bytes: &[u8], af
 
 /// A hub with nothing begun, inside a packet, one byte before its end, deaf, inside a message, barred.
 pub fn desk_hub(stream: &mut FromReader) {
+    // In the room that blocks have until one is set, so before all else.
+    cut_in_blocks(stream);
+    blocks_of_sizes(stream);
     every_room(stream);
+    for room in (7..=33).chain([64, LONGEST]) {
+        stream.set_room(room);
+        equal_blocks(stream, &medley());
+    }
     let piece = lay_out(DECODE_DATA, READER, 0, &[0x1B, 0x38]);
     let first = lay_out(DECODE_DATA, READER, MORE, &[0x1B, 0x37]);
     let other = lay_out(DECODE_DATA, READER, 0, &[0x1C]);
@@ -322,7 +329,102 @@ pub fn desk_hub(stream: &mut FromReader) {
         [&first[..], &other].concat(),
         [&first[..], &other, almost].concat(),
     ];
-    rooms_in_states(stream, &states, &[3, 4, piece[piece.len() - 1]], &piece);
+    let last = piece[piece.len() - 1];
+    rooms_in_states(stream, &states, &[3, 4, last], &piece);
+    let blocks =
+        [vec![], vec![3], vec![last], [&[last], &first[..], &piece, &piece].concat(), vec![0; LONGEST_BLOCK + 1]];
+    blocks_in_states(stream, &states, &blocks, &piece);
+}
+
+/// All that a hub may hear without a gap: pieces, resends, an ACK, refusals 4 to 7, ends of messages, a bar, and a
+/// refusal 2 with a card behind it.
+fn medley() -> Vec<u8> {
+    let card = lay_out(DECODE_DATA, READER, 0, &[0x1B, 0x38]);
+    let mut spoiled = card.clone();
+    spoiled[5] ^= 1;
+    [
+        lay_out(DECODE_DATA, READER, MORE, &[0x1B, 0x37]),
+        lay_out(DECODE_DATA, READER, MORE | MARK, &[0x1B, 0x37]),
+        lay_out(CMD_ACK, READER, 0, &[]),
+        lay_out(DECODE_DATA, HOST, 0, &[0x1B]),
+        lay_out(DECODE_DATA, READER, 4, &[0x1B]),
+        lay_out(PARAM_SEND, READER, 0, &[NO_BEEP]),
+        lay_out(DECODE_DATA, READER, 0, &[]),
+        card.clone(),
+        lay_out(DECODE_DATA, READER, MARK, &[0x1B, 0x38]),
+        lay_out(DECODE_DATA, READER, 0, &[0x1C]),
+        lay_out(DECODE_DATA, READER, MORE, &[0x1B]),
+        lay_out(DECODE_DATA, READER, 0, &[0x1C]),
+        card.clone(),
+        lay_out(CMD_NAK, READER, 0, &[1]),
+        spoiled,
+        card,
+    ]
+    .concat()
+}
+
+/// Bytes in blocks of every size.
+fn equal_blocks(stream: &mut FromReader, bytes: &[u8]) {
+    for size in 1..=bytes.len() {
+        bytes.chunks(size).for_each(|block| stream.block(block));
+        stream.event(LineEvent::MessageGap);
+    }
+}
+
+/// And cut in two at every place, each half in a block or alone.
+fn cut_in_blocks(stream: &mut FromReader) {
+    let bytes = medley();
+    equal_blocks(stream, &bytes);
+    for (front, back) in (0..=bytes.len()).map(|place| bytes.split_at(place)) {
+        stream.block(front);
+        stream.block(back);
+        stream.event(LineEvent::MessageGap);
+        stream.send(front);
+        stream.block(back);
+        stream.event(LineEvent::MessageGap);
+        stream.block(front);
+        stream.send(back);
+        stream.event(LineEvent::MessageGap);
+        // The back is heard as if nothing had come before.
+        stream.block(front);
+        stream.event(LineEvent::Gap);
+        stream.block(back);
+        stream.event(LineEvent::MessageGap);
+    }
+}
+
+/// Of every size up to some, and around the longest: bytes that are ignored, and cards.
+fn blocks_of_sizes(stream: &mut FromReader) {
+    let card = lay_out(DECODE_DATA, READER, 0, &[0x1B, 0x38]);
+    for size in (0..=300).chain(4_090..=4_100) {
+        stream.block(&vec![3; size]);
+        stream.event(LineEvent::Gap);
+        let cards: Vec<u8> = card.iter().copied().cycle().take(size).collect();
+        stream.block(&cards);
+        stream.event(LineEvent::MessageGap);
+    }
+}
+
+/// Blocks in rooms around the need in every state. What comes after each in a room of full size is the block again, or
+/// not.
+fn blocks_in_states(stream: &mut FromReader, states: &[Vec<u8>], blocks: &[Vec<u8>], after: &[u8]) {
+    for (room, state) in rooms_to_try().flat_map(|room| states.iter().map(move |state| (room, state))) {
+        for (block, again) in blocks.iter().flat_map(|block| [(block, true), (block, false)]) {
+            // Those that are too long say little about a room.
+            if block.len() > LONGEST_BLOCK && !(5..=8).contains(&room) {
+                continue;
+            }
+            stream.send(state);
+            stream.set_room(room);
+            stream.block(block);
+            stream.set_room(LONGEST);
+            if again {
+                stream.block(block);
+            }
+            stream.send(after);
+            stream.event(LineEvent::MessageGap);
+        }
+    }
 }
 
 /// A reader with nothing begun, inside a packet, one byte before the end of several, deaf; with a message out; and with

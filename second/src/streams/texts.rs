@@ -3,6 +3,7 @@
 use super::endings::{Endings, DESK_HUB_ENDINGS, DESK_READER_ENDINGS, HUB_ENDINGS, READER_ENDINGS};
 use crate::form::{save, LONGEST_FORM, WITHOUT_LOCKS};
 use crate::listing::{push_bytes, Listing, Side};
+use crate::packet::{lay_out, DECODE_DATA, READER};
 use crate::table::{Table, ROWS};
 
 /// Lines are due before the end, and a program that stops too early doesn't write them.
@@ -20,6 +21,16 @@ const ROOM: [State; 4] =
 /// With other numbers of pairs.
 const MORE_ROOM: [State; 4] =
     [(b"K 0", b" 06 ; 03 ."), (b"K 00 06 0", b" ; 03 ."), (b"K 00 06 00", b" ; 03 ."), (b"K 00 06 00 0", b" ; 03 .")];
+/// After a `[` with no pair, with one and with a packet's, and after a lone digit there.
+const BLOCK: [State; 4] = [
+    (b"[", b" 03 ] . 03 ."),
+    (b"[ 0", b" ] 03 ."),
+    (b"[ 06", b" F3 00 00 1B 38 FE B4 ] 03 ."),
+    (b"[ 06 F3 00 00 1B 38 FE B4", b" 03 ] . 03 ."),
+];
+/// Behind a block, and inside one that stands inside a packet.
+const MORE_BLOCK: [State; 4] =
+    [(b"[ 06 0", b" ] 03 ."), (b"[ ]", b" 03 ."), (b"[ 06 F3 ]", b" . 03 ."), (b"06 F3 [ 00", b" ] . 03 .")];
 /// After an `S` with no pair and with one, and after a lone digit there.
 const START: [State; 3] = [(b"S", b" 1B 38 ; T"), (b"S 1B", b" 38 ; T"), (b"S 1B 3", b" 38 ; T")];
 const MORE_START: [State; 1] = [(b"S 1", b" 38 ; T")];
@@ -33,16 +44,16 @@ const FORM: [State; 4] = [
 
 /// Characters that a program may take for others: ones that are not printed, the neighbours of the digits, signs and
 /// letters of other states and requests, small letters, and with the highest bit set.
-const NOTABLE: &[u8] = b"\0\t\n\x0C\r ./0:;@FGKLPSTUW[`gklwx\x7F\x80\xA0\xAE\xFF";
+const NOTABLE: &[u8] = b"\0\t\n\x0C\r (./0:;@FGKLPSTUW[\\]^`gklwx{}\x7F\x80\xA0\xAE\xDB\xDD\xFF";
 
 /// After a lone digit nothing but another is right.
-const NOTABLE_AFTER_DIGIT: &[u8] = b"\t\n .;GKTfg";
+const NOTABLE_AFTER_DIGIT: &[u8] = b"\t\n .;GKT[]fg";
 
 /// The texts of every comparison: few enough for programs that take long to start.
 pub fn texts(side: Side) -> Vec<Vec<u8>> {
     let (states, endings): (&[&[State]], [Endings; 2]) = match side {
         Side::Hub => (&[&BASE], [&HUB_ENDINGS, &DESK_HUB_ENDINGS]),
-        Side::DeskHub => (&[&BASE, &ROOM], [&HUB_ENDINGS, &DESK_HUB_ENDINGS]),
+        Side::DeskHub => (&[&BASE, &ROOM, &BLOCK], [&HUB_ENDINGS, &DESK_HUB_ENDINGS]),
         Side::DeskReader => (&[&BASE, &ROOM, &START, &FORM], [&READER_ENDINGS, &DESK_READER_ENDINGS]),
     };
     let mut texts = vec![Vec::new()];
@@ -54,8 +65,10 @@ pub fn texts(side: Side) -> Vec<Vec<u8>> {
     if side != Side::Hub {
         texts.extend(long_tokens());
     }
-    if side == Side::DeskReader {
-        texts.extend(long_forms());
+    match side {
+        Side::Hub => {}
+        Side::DeskHub => texts.extend(long_blocks()),
+        Side::DeskReader => texts.extend(long_forms()),
     }
     texts
 }
@@ -64,7 +77,7 @@ pub fn texts(side: Side) -> Vec<Vec<u8>> {
 pub fn every_text(side: Side) -> Vec<Vec<u8>> {
     let states: &[&[State]] = match side {
         Side::Hub => &[&BASE],
-        Side::DeskHub => &[&BASE, &ROOM, &MORE_ROOM],
+        Side::DeskHub => &[&BASE, &ROOM, &MORE_ROOM, &BLOCK, &MORE_BLOCK],
         Side::DeskReader => &[&BASE, &ROOM, &MORE_ROOM, &START, &MORE_START, &FORM],
     };
     let mut texts = Vec::new();
@@ -120,4 +133,24 @@ fn long_forms() -> Vec<Vec<u8>> {
         .into_iter()
         .flat_map(|size| [text(size), text(size + WITHOUT_LOCKS)])
         .collect()
+}
+
+/// Of lengths around the longest and far above it, at which low bytes of a length may look right: bytes that a deaf hub
+/// ignores, and cards that fill whole calls; in the room there is from the start, in a small one and in a large one.
+fn long_blocks() -> Vec<Vec<u8>> {
+    let card = lay_out(DECODE_DATA, READER, 0, &[0x1B, 0x38]);
+    let mut texts = Vec::new();
+    for size in [4_095, 4_096, 4_097, 4_098, 8_192, 65_536, 65_537, 69_632, 200_000] {
+        let mut token = b" [ 03".to_vec();
+        push_bytes(&vec![card[0]; size - 1], &mut token);
+        texts.push([LEAD, &token].concat());
+        for room in [&b""[..], b"K 00 06 ;", b"K FF FF ;"] {
+            texts.push([LEAD, room, &token, b" ]", AFTER].concat());
+            let mut cards = b" [".to_vec();
+            let bytes: Vec<u8> = card.iter().copied().cycle().take(size).collect();
+            push_bytes(&bytes, &mut cards);
+            texts.push([LEAD, room, &cards, b" ]", AFTER].concat());
+        }
+    }
+    texts
 }

@@ -4,8 +4,9 @@
 //! buffers are the machine's own between calls, also where nothing is begun or out: by the last packet of the message
 //! before, which stands in the message buffer, a start says whether a message gap is due.
 //! Control bytes or a room of too small a size give [`Refusal::Room`](crate::Refusal::Room), with nothing changed;
-//! that is looked at first, at every event, before the short way too; only a set that is read ([`reader::load`]) is
-//! looked at before it. Buffers of fixed size are arrays. Bytes past what is written stay as they were in every room.
+//! that is looked at first, at every event, before the short way too, and at every block; only a set that is read
+//! ([`reader::load`]) is looked at before it. Buffers of fixed size are arrays. Bytes past what is written stay as they
+//! were in every room.
 //!
 //! ```
 //! use motikhund::constants::{HUB_ANSWER_SIZE, HUB_CONTROL_SIZE, LINE_SIZE, MESSAGE_SIZE};

@@ -38,6 +38,10 @@ fn of_the_reader() {
 #[test]
 fn of_the_hub() {
     however_it_is_cut("hub", include_bytes!("../../../../crates/hub_cases/stdin"));
+    however_it_is_cut(
+        "hub",
+        b"[06 F3 00 02 1B 38 FE B2 03 06] . [] K 00 06 ; [06] K 00 07 ; [06 F3 00 00 1B 38 FE B4 06]",
+    );
 }
 
 /// More than one read takes.

@@ -24,7 +24,7 @@ fn its_examples_do_what_it_says() {
         assert_eq!(lines(end, text), due);
         examples += 1;
     }
-    assert_eq!(examples, 4);
+    assert_eq!(examples, 5);
 }
 
 #[test]

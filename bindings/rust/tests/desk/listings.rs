@@ -106,4 +106,5 @@ fn nothing_comes_of_nothing() {
     }
     assert_eq!(lines("reader", "S 1B 38"), "");
     assert_eq!(lines("reader", "L "), "");
+    assert_eq!(lines("hub", "[ 06 F3 00 00 1B 38 FE B4"), "");
 }

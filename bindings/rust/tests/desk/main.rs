@@ -1,5 +1,6 @@
 //! `desk` as a program: what it reads, writes and says.
 
+mod blocks;
 mod cases;
 mod cuts;
 mod help;

@@ -36,7 +36,8 @@ fn the_hub_tells_at_once() {
         &[
             ("06 F3 00 00 1B 38 FE B4", &["M 1B 38", ack]),
             (". 06 F3 00 01 1B 38 FE B3", &[ack]),
-            (". 03", &["R 1", "A 05 D1 04 00 01 FF 25"]),
+            (". [06 F3 00 01 1B 38 FE B3 06]", &[ack, "L 9"]),
+            (". 03", &["R 3", "A 05 D1 04 00 01 FF 25", "R 1", "A 05 D1 04 00 01 FF 25"]),
             ("K0006; .", &["R 13"]),
             ("/", &["R 13"]),
         ],
@@ -63,7 +64,9 @@ fn the_reader_tells_at_once() {
 /// `E` too, though more input may come.
 #[test]
 fn it_stops_at_once() {
-    for (end, text) in [("hub", "03 T"), ("reader", "03 H"), ("hub", "03 . 0 "), ("reader", "03 K 00 ;")] {
+    for (end, text) in
+        [("hub", "03 T"), ("reader", "03 H"), ("hub", "03 . 0 "), ("reader", "03 K 00 ;"), ("hub", "03 [06.")]
+    {
         let mut child = command(&[end]).spawn().expect("desk is built");
         let mut input = child.stdin.take().expect("a pipe");
         input.write_all(text.as_bytes()).expect("it reads");

@@ -20,6 +20,8 @@ fn no_token() {
     says("hub", b"04 T", (1, 4), "'T'");
     says("hub", b"W", (1, 1), "'W'");
     says("hub", b"\nL", (2, 1), "'L'");
+    says("hub", b"[ 06 ] ]", (1, 8), "']'");
+    says("reader", b"[", (1, 1), "'['");
     says("reader", b"04\r\n\r\n T\t", (3, 3), "a tab");
     says("reader", b"T;", (1, 2), "';'");
     says("reader", b"'", (1, 1), "\"'\"");
@@ -48,6 +50,9 @@ fn tokens_with_bytes() {
     says("reader", b"S 1B\n.", (2, 1), &format!("'.' is wrong between 'S' and its ';': {only}"));
     says("hub", b"K S", (1, 3), &format!("'S' is wrong between 'K' and its ';': {only}"));
     says("reader", b"L 01 W", (1, 6), &format!("'W' is wrong between 'L' and its ';': {only}"));
+    says("hub", b"[ 06\nF3 . ]", (2, 4), &format!("'.' is wrong between '[' and its ']': {only}"));
+    says("hub", b"[;", (1, 2), &format!("';' is wrong between '[' and its ']': {only}"));
+    says("hub", b"K 00 ]", (1, 6), &format!("']' is wrong between 'K' and its ';': {only}"));
     says("reader", b"S ;", (1, 3), "';' comes too early: 'S' takes at least 1 byte, then ';'");
     says("hub", b"K 19;", (1, 5), "';' comes too early: 'K' takes 2 bytes, then ';'");
     says("hub", b"K 00 19 00 ;", (1, 12), "';' comes too late: 'K' takes 2 bytes, then ';'");

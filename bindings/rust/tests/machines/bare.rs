@@ -1,9 +1,9 @@
 //! The raw calls over fenced buffers, and what the safe ones told as the numbers that the raw ones give, to be
 //! compared.
 
-use motikhund::constants::{READER_VALUES, START_VALUES, SWITCH_VALUES};
+use motikhund::constants::{BLOCK_VALUES, READER_VALUES, START_VALUES, SWITCH_VALUES};
 use motikhund::packet::Head;
-use motikhund::{raw, Event, Found, HubTold, Outcome, ReaderTold, Refusal};
+use motikhund::{raw, BlockTold, Event, Found, HubBlock, HubTold, Outcome, ReaderTold, Refusal};
 
 use crate::dice::Dice;
 use crate::fenced::Fenced;
@@ -71,6 +71,29 @@ pub fn hub([control, line, gather, answer, message]: &mut [Fenced; 5], event: u3
             message.as_mut_ptr(),
             message.len(),
             event,
+            &mut values,
+        )
+    };
+    (number, values)
+}
+
+pub fn hub_block(
+    [control, line, gather, answer, message]: &mut [Fenced; 5],
+    bytes: &[u8],
+) -> (u32, [usize; BLOCK_VALUES]) {
+    let (control, answer, message, mut values) = (control.lent(), answer.lent(), message.lent(), [JUNK; BLOCK_VALUES]);
+    let number = unsafe {
+        raw::mk_hub_hear_block(
+            control.as_mut_ptr(),
+            control.len(),
+            line.array(),
+            gather.array(),
+            answer.as_mut_ptr(),
+            answer.len(),
+            message.as_mut_ptr(),
+            message.len(),
+            bytes.as_ptr(),
+            bytes.len(),
             &mut values,
         )
     };
@@ -226,6 +249,20 @@ pub fn of_hub(told: HubTold<'_>) -> (u32, [usize; 3]) {
         HubTold::Repeated { .. } => (111, [answer, 0, 0]),
         HubTold::Message { code, message, .. } => (112, [answer, code.into(), message.len()]),
         HubTold::Refused { why, .. } => (why.number(), [answer, 0, 0]),
+    }
+}
+
+pub fn of_block(block: Result<HubBlock<'_>, Refusal>) -> (u32, [usize; BLOCK_VALUES]) {
+    match block {
+        Ok(HubBlock { taken, answer, told }) => {
+            let (number, code, count) = match told {
+                BlockTold::Nothing => (0, 0, 0),
+                BlockTold::Message { code, message } => (112, code.into(), message.len()),
+                BlockTold::Refused(why) => (why.number(), 0, 0),
+            };
+            (number, [answer.len(), code, count, taken])
+        }
+        Err(why) => (why.number(), [0; BLOCK_VALUES]),
     }
 }
 

@@ -21,6 +21,7 @@ fn each_refusal_has_its_number() {
         (Refusal::Start, 11),
         (Refusal::Form, 12),
         (Refusal::Room, 13),
+        (Refusal::Long, 15),
     ];
     for number in (0..=1_000).chain([u32::MAX]) {
         let name = named.iter().find(|(_, of)| *of == number).map(|(name, _)| *name);
@@ -42,10 +43,10 @@ fn each_refusal_is_an_error() {
     let all: Vec<Refusal> = (0..20).filter_map(Refusal::from_number).collect();
     let texts: BTreeSet<String> = all.iter().map(Refusal::to_string).collect();
     assert!(
-        texts.len() == 13 && all.iter().all(|why| why.to_string().starts_with(&format!("refusal {}: ", *why as u8)))
+        texts.len() == 14 && all.iter().all(|why| why.to_string().starts_with(&format!("refusal {}: ", *why as u8)))
     );
     let reasons: BTreeSet<&str> = texts.iter().filter_map(|text| Some(text.split_once(": ")?.1)).collect();
-    assert_eq!(reasons.len(), 13);
+    assert_eq!(reasons.len(), 14);
 }
 
 #[test]

@@ -1,6 +1,6 @@
-//! Every lent byte after a refusal, with garbage of several kinds around what it needs. On 11 to 13 none changes, and
-//! the values told are 0 (12 is in `sets.rs`). On 1 to 10 these change and no other: the answer at the front of its room, the byte that came
-//! in its place in the line, and the control value as the rules have it (docs/PROTOCOL.md §6).
+//! Every lent byte after a refusal, with garbage of several kinds around what it needs. On 11 to 15 none changes, and
+//! the values told are 0 (12 is in `sets.rs`). On 1 to 10 these change and no other: the answer at the front of its
+//! room, the byte that came in its place in the line, and the control value as the rules have it (docs/PROTOCOL.md §6).
 
 use motikhund::constants::*;
 use motikhund::Refusal;
@@ -33,6 +33,9 @@ const FAILED_FLAG: usize = 2;
 const DELIVERED_FLAG: usize = 3;
 const LENGTH: usize = 4;
 const PIECE: usize = 20;
+
+/// Where a hub's numbers stand.
+pub const HUB_NUMBERS: [usize; 3] = [COUNT, LAST, GATHERED];
 
 /// The flags behind the framer's bytes.
 pub const HUB_FLAGS: [usize; 4] = [DEAF, SECOND, BARRED, BEGUN];
@@ -302,6 +305,25 @@ fn of_a_start() {
     });
 }
 
+/// More bytes than a block has; with a room too small that is what is refused.
+#[test]
+fn of_long_blocks() {
+    // The largest two would be small if they were counted in 16 bits.
+    let sizes = [BLOCK_SIZE + 1, BLOCK_SIZE + 2, 2 * BLOCK_SIZE, 65_535, 65_536, 65_536 + 8];
+    let bytes = Dice::new(15).bytes(sizes[sizes.len() - 1]);
+    each(HUB, sizes.len(), |way, mut lent, about| {
+        let refused = (Refusal::Long.number(), [0; BLOCK_VALUES]);
+        assert_eq!(bare::hub_block(&mut lent, &bytes[..sizes[way]]), refused, "{about}");
+        assert!(lent.iter().all(Fenced::unchanged), "{about}");
+    });
+}
+
+/// Some bytes of any number: none, some, as many as are allowed, more.
+fn any_block(dice: &mut Dice) -> Vec<u8> {
+    let size = dice.pick(&[0, 0, 1, 8, 300, BLOCK_SIZE, BLOCK_SIZE + 1, 70_000]);
+    dice.bytes(size)
+}
+
 /// 13, with the values that are told: all 0.
 #[test]
 fn of_short_rooms() {
@@ -309,6 +331,7 @@ fn of_short_rooms() {
     let event = |dice: &mut Dice| dice.below(300) as u32;
     lends(FRAMER, (ROOM, [0; HEAD_VALUES]), |dice, lent| bare::framer(lent, event(dice)));
     lends(HUB, (ROOM, [0; HUB_VALUES]), |dice, lent| bare::hub(lent, event(dice)));
+    lends(HUB, (ROOM, [0; BLOCK_VALUES]), |dice, lent| bare::hub_block(lent, &any_block(dice)));
     lends(SENDER, (ROOM, 0), |dice, lent| bare::sender_hear(lent, event(dice)));
     lends(SENDER, (ROOM, [0; START_VALUES]), |dice, lent| bare::sender_start(lent, dice.byte(), b"8"));
     lends(READER, (ROOM, [0; READER_VALUES]), |dice, lent| bare::reader_hear(lent, event(dice)));

@@ -13,7 +13,7 @@ use motikhund::{packet, Heard, Refusal, Reply};
 
 use crate::bare;
 use crate::dice::Dice;
-use crate::every_byte::{due_flags, HUB_FLAGS, READERS_SENDER, READER_FLAGS};
+use crate::every_byte::{due_flags, HUB_FLAGS, HUB_NUMBERS, READERS_SENDER, READER_FLAGS};
 use crate::fenced::{Fenced, Size, FRAMER, HUB, READER, SENDER};
 use crate::notation;
 use crate::streams::{Side, Stream};
@@ -22,13 +22,13 @@ const RUNS: u64 = 100;
 const EVENTS: usize = 1_000;
 
 /// The same bytes twice, for the safe call and for the raw one.
-struct Twins<const N: usize> {
-    safe: [Fenced; N],
-    bare: [Fenced; N],
+pub struct Twins<const N: usize> {
+    pub safe: [Fenced; N],
+    pub bare: [Fenced; N],
 }
 
 impl<const N: usize> Twins<N> {
-    fn new(dice: &mut Dice, sizes: [Size; N]) -> Twins<N> {
+    pub fn new(dice: &mut Dice, sizes: [Size; N]) -> Twins<N> {
         let safe = sizes.map(|size| {
             let size = size.enough(dice);
             Fenced::new(dice, size)
@@ -37,7 +37,7 @@ impl<const N: usize> Twins<N> {
     }
 
     /// Any bytes as control value, with numbers and flags that now and then stand for something.
-    fn garble(&mut self, dice: &mut Dice, numbers: &[usize], flags: &[usize]) {
+    pub fn garble(&mut self, dice: &mut Dice, numbers: &[usize], flags: &[usize]) {
         let control = self.safe[0].lent();
         control.fill_with(|| dice.byte());
         for place in numbers {
@@ -55,7 +55,7 @@ impl<const N: usize> Twins<N> {
 
     /// Both left the same, and nothing past so many bytes of each buffer. In the control value a flag that was read as
     /// not set may be any byte but 1: the short way leaves it, and the call writes what it read.
-    fn agree(&mut self, flags: &[usize], written: [usize; N]) {
+    pub fn agree(&mut self, flags: &[usize], written: [usize; N]) {
         for control in [&mut self.safe[0], &mut self.bare[0]] {
             due_flags(control.lent(), flags);
         }
@@ -141,7 +141,7 @@ fn the_hub() {
         let mut twins = Twins::new(dice, HUB);
         for _ in 0..EVENTS {
             if dice.chance(1) {
-                twins.garble(dice, &[0, 10, 21], &[8, 9, 18, 19]);
+                twins.garble(dice, &HUB_NUMBERS, &HUB_FLAGS);
             }
             let event = stream.next(dice);
             let told = bare::hub(&mut twins.bare, bare::event_number(event));

@@ -2,6 +2,7 @@
 
 mod bare;
 mod beeps;
+mod blocks;
 mod cases;
 mod constants;
 mod conversions;

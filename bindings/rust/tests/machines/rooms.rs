@@ -94,6 +94,12 @@ fn of_the_hub() {
             _ => None,
         }
     });
+    // Of a block too, also of no bytes, and before it is found too long.
+    asks(HUB, |dice, [control, line, gather, answer, message]| {
+        let size = dice.pick(&[0, 1, 300, 4_096, 4_097]);
+        let (line, gather, bytes) = (line.array(), gather.array(), dice.bytes(size));
+        hub::hear_block(control.lent(), line, gather, answer.lent(), message.lent(), &bytes).err()
+    });
 }
 
 #[test]

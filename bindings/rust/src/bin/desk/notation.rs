@@ -1,4 +1,4 @@
-//! Characters into tokens: bytes, gaps, letters, and letters with bytes up to `;`.
+//! Characters into tokens: bytes, gaps, letters, and letters with bytes up to `;`; a block has brackets for both.
 
 use motikhund::Event;
 
@@ -28,6 +28,8 @@ pub type Acts<E> = fn(&mut E, &[u8], &mut Lines);
 #[derive(Clone, Copy)]
 pub struct Shape {
     pub letter: u8,
+    /// The sign that ends its bytes.
+    pub closing: u8,
     /// Fewer bytes are wrong.
     pub least: usize,
     /// So many are let through.
@@ -49,11 +51,8 @@ impl Shape {
     }
 }
 
-/// The sign that ends a letter's bytes.
-pub const CLOSING: u8 = b';';
-
 /// `K hh ll ;`, at either end: the size of the answer room.
-pub const ROOM: Shape = Shape { letter: b'K', least: 2, most: 2, further: Further::Wrong };
+pub const ROOM: Shape = Shape { letter: b'K', closing: b';', least: 2, most: 2, further: Further::Wrong };
 
 /// The size that the bytes of a `K` name, high byte first.
 pub fn size(bytes: &[u8]) -> usize {
@@ -66,7 +65,7 @@ pub struct Notation<E: End> {
     place: Place,
     /// The first digit of a byte, while its second is awaited.
     digit: Option<u8>,
-    /// A letter whose `;` is awaited.
+    /// A letter whose end is awaited.
     opened: Option<(Shape, Acts<E>)>,
     /// Its bytes so far.
     bytes: Vec<u8>,
@@ -131,13 +130,13 @@ impl<E: End> Notation<E> {
                 }
                 None => return Err(Trouble::Outside),
             },
-            (Some((shape, _)), CLOSING) if self.bytes.len() < shape.least => return Err(Trouble::Few(shape)),
-            (Some((shape, _)), CLOSING) if self.bytes.len() > shape.most => return Err(Trouble::Many(shape)),
-            (Some((_, acts)), CLOSING) => {
+            (Some((shape, _)), sign) if sign != shape.closing => return Err(Trouble::Inside(shape)),
+            (Some((shape, _)), _) if self.bytes.len() < shape.least => return Err(Trouble::Few(shape)),
+            (Some((shape, _)), _) if self.bytes.len() > shape.most => return Err(Trouble::Many(shape)),
+            (Some((_, acts)), _) => {
                 self.opened = None;
                 acts(&mut self.end, &self.bytes, lines);
             }
-            (Some((shape, _)), _) => return Err(Trouble::Inside(shape)),
         }
         Ok(())
     }

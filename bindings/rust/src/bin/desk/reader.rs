@@ -21,10 +21,11 @@ const NUMBERS: [u8; 9] = [
 ];
 
 /// `S tt bb .. ;`: the code type, and one byte more than the longest message has, so that a longer one is refused.
-const START: Shape = Shape { letter: b'S', least: 1, most: 1 + MESSAGE_SIZE + 1, further: Further::Dropped };
+const START: Shape =
+    Shape { letter: b'S', closing: b';', least: 1, most: 1 + MESSAGE_SIZE + 1, further: Further::Dropped };
 
 /// `L bb .. ;`: the form of a set, and one byte more than the longest has, so that a longer one is refused.
-const LOAD: Shape = Shape { letter: b'L', least: 0, most: SET_SIZE + 1, further: Further::Dropped };
+const LOAD: Shape = Shape { letter: b'L', closing: b';', least: 0, most: SET_SIZE + 1, further: Further::Dropped };
 
 /// A reader with an answer room of any size. Its control bytes have their size, so no call refuses them.
 pub struct Reader {

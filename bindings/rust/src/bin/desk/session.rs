@@ -6,7 +6,7 @@ use crate::lines::Lines;
 use crate::notation::{End, Notation};
 use crate::Stop;
 
-/// What is read at once, at most. The lines due for it wait in memory; no character has more than a copy's line.
+/// What is read at once, at most. The lines due for it wait in memory; no character has more than those of a block.
 const PART: usize = 1 << 13;
 
 /// Drives an end until the input ends or is wrong.

@@ -1,5 +1,7 @@
 //! Tests: every character in every state of the notation, at both ends.
 
+use motikhund::constants::BLOCK_SIZE;
+
 use crate::hub::Hub;
 use crate::notation::End;
 use crate::reader::Reader;
@@ -70,9 +72,14 @@ fn room<E: End>(end: fn() -> E) {
 #[test]
 fn of_the_hub() {
     for text in ["", "04", ".\r", "K00ff;"] {
-        after(Hub::new, text, " \n\r./K");
+        after(Hub::new, text, " \n\r./K[");
     }
-    for text in ["0", "04 d", "K00ff;A"] {
+    // A block of no bytes is one too, and one of more bytes than are allowed.
+    let long = format!("[{}", "06".repeat(BLOCK_SIZE + 2));
+    for text in ["[", "[\r", "[ 06", "[06F3 ", &long] {
+        after(Hub::new, text, " \n\r]");
+    }
+    for text in ["0", "04 d", "K00ff;A", "[ 0", "[06 F"] {
         after_digit(Hub::new, text);
     }
     room(Hub::new);

@@ -2,7 +2,7 @@
 
 use std::fmt::{self, Display, Formatter};
 
-use crate::notation::{Shape, CLOSING};
+use crate::notation::Shape;
 
 /// Line and column of a character, from 1 on. A carriage return is a column like any other.
 #[derive(Clone, Copy)]
@@ -15,11 +15,11 @@ pub struct Place {
 pub enum Trouble {
     /// No token begins with it.
     Outside,
-    /// It stands between a letter and its `;`.
+    /// It stands between a letter and the sign that ends its bytes.
     Inside(Shape),
-    /// It is `;`, and bytes are missing before it.
+    /// It is that sign, and bytes are missing before it.
     Few(Shape),
-    /// It is `;`, and more bytes stand before it than may.
+    /// It is that sign, and more bytes stand before it than may.
     Many(Shape),
     /// It comes after one digit of a byte. That digit is what is wrong: this character might be right elsewhere.
     Lone(u8),
@@ -64,8 +64,8 @@ impl Display for Wrong {
         };
         match &self.trouble {
             Trouble::Outside => write!(to, "{this} is no hex digit, gap or token here"),
-            Trouble::Inside(Shape { letter, .. }) => {
-                write!(to, "{this} is wrong between '{}' and its '{}': ", char::from(*letter), char::from(CLOSING))?;
+            Trouble::Inside(Shape { letter, closing, .. }) => {
+                write!(to, "{this} is wrong between '{}' and its '{}': ", char::from(*letter), char::from(*closing))?;
                 write!(to, "only bytes stand there, two hex digits each")
             }
             Trouble::Few(shape) => write!(to, "{this} comes too early: {shape}"),
@@ -80,10 +80,10 @@ impl Display for Wrong {
 
 impl Display for Shape {
     fn fmt(&self, to: &mut Formatter) -> fmt::Result {
-        let Shape { letter, least, most, .. } = *self;
+        let Shape { letter, closing, least, most, .. } = *self;
         let limit = if least == most { "" } else { "at least " };
         let bytes = if least == 1 { "byte" } else { "bytes" };
-        write!(to, "'{}' takes {limit}{least} {bytes}, then '{}'", char::from(letter), char::from(CLOSING))
+        write!(to, "'{}' takes {limit}{least} {bytes}, then '{}'", char::from(letter), char::from(closing))
     }
 }
 
