@@ -1,4 +1,4 @@
-//! Rattle code as far as mutants need it: tokens, the bodies of functions, signatures, and the variants of enums.
+//! Rattle code as far as wrong programs need it: tokens, the bodies of functions, signatures, and the variants of enums.
 
 use std::collections::HashMap;
 use std::ops::Range;
@@ -33,6 +33,8 @@ pub fn tokens(text: &str) -> Vec<Token> {
         let rest = &text[at..];
         let (kind, length) = if rest.starts_with("//") {
             (None, rest.find('\n').unwrap_or(rest.len()))
+        } else if rest.starts_with("/*") {
+            (None, rest.find("*/").map_or(rest.len(), |end| end + 2))
         } else if rest.starts_with("b'") {
             (Some(Kind::Number), 2 + rest[3..].find('\'').map_or(0, |end| end + 2))
         } else if first.is_ascii_digit() {
@@ -95,13 +97,21 @@ pub fn parts(tokens: &[Token], open: usize) -> Vec<Range<usize>> {
     parts
 }
 
-/// The tokens of a function's body, and those of constants, which are code too. Contracts are not: a wrong program keeps them.
-pub fn bodies(tokens: &[Token]) -> Vec<Range<usize>> {
+/// Code that may be changed: the body of a function, or a constant's value.
+pub struct Body {
+    /// The function's name; a constant has none here.
+    pub function: Option<String>,
+    pub tokens: Range<usize>,
+}
+
+/// The bodies of functions, and the values of constants, which are code too. Contracts are not: a wrong program keeps them.
+pub fn bodies(tokens: &[Token]) -> Vec<Body> {
     let mut found = Vec::new();
     let mut at = 0;
     while at < tokens.len() {
         if tokens[at].is("fn") {
             let Some(open) = (at..tokens.len()).find(|number| tokens[*number].is("(")) else { break };
+            let function = Some(tokens[at + 1].text.clone());
             at = behind(tokens, open);
             // The result's type, then clauses with their braces, then the body's brace.
             while at < tokens.len() && !tokens[at].is("{") {
@@ -109,14 +119,14 @@ pub fn bodies(tokens: &[Token]) -> Vec<Range<usize>> {
                 at = if clause { behind(tokens, at + 1) } else { at + 1 };
             }
             let end = behind(tokens, at);
-            found.push(at..end);
+            found.push(Body { function, tokens: at..end });
             at = end;
         } else if tokens[at].is("const") {
             let value = (at..tokens.len()).find(|number| tokens[*number].is("=")).unwrap_or(tokens.len());
             let end = (value..tokens.len())
                 .find(|number| tokens[*number].is(";") && !inside(tokens, value, *number))
                 .unwrap_or(tokens.len());
-            found.push(value..end);
+            found.push(Body { function: None, tokens: value..end });
             at = end;
         } else {
             at += 1;

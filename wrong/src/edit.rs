@@ -1,6 +1,7 @@
 //! An edit in the toolchain's own format: `file: PATH` holds for the pairs `old: TEXT`, `new: TEXT` after it, and each old text must stand
 //! exactly once in its file. The first line says what is wrong with the program.
 
+use std::collections::BTreeSet;
 use std::path::{Component, Path};
 
 use crate::files::{at, read};
@@ -43,17 +44,34 @@ impl Edit {
         Ok(Edit { wrong, changes })
     }
 
+    /// The file that it changes, if it is one.
+    pub fn only_file(&self) -> Option<&str> {
+        let first = &self.changes.first()?.file;
+        self.changes.iter().all(|change| change.file == *first).then_some(first)
+    }
+
+    /// A file's text with all its changes made, one after the other.
+    pub fn change(&self, file: &str, mut text: String) -> Result<String, String> {
+        for change in self.changes.iter().filter(|change| change.file == file) {
+            match text.matches(change.old.as_str()).count() {
+                1 => text = text.replacen(&change.old, &change.new, 1),
+                count => return Err(format!("an 'old:' text stands {count} times in {file}")),
+            }
+        }
+        Ok(text)
+    }
+
     /// Changes the files of a crate. An edit that does not apply is an `Ok(Err(..))`: it is the edit that is wrong, not the place.
     pub fn apply(&self, folder: &Path) -> Result<Result<(), String>, Stop> {
-        for change in &self.changes {
-            let path = folder.join(&change.file);
-            if !in_crate(&change.file) || !path.is_file() {
-                return Ok(Err(format!("{} is no file of the crate under src/, specs/ or proofs/", change.file)));
+        let files: BTreeSet<&str> = self.changes.iter().map(|change| change.file.as_str()).collect();
+        for file in files {
+            let path = folder.join(file);
+            if !in_crate(file) || !path.is_file() {
+                return Ok(Err(format!("{file} is no file of the crate under src/, specs/ or proofs/")));
             }
-            let text = read(&path)?;
-            match text.matches(change.old.as_str()).count() {
-                1 => at(&path, std::fs::write(&path, text.replacen(&change.old, &change.new, 1)))?,
-                count => return Ok(Err(format!("an 'old:' text stands {count} times in {}", change.file))),
+            match self.change(file, read(&path)?) {
+                Ok(text) => at(&path, std::fs::write(&path, text))?,
+                Err(why) => return Ok(Err(why)),
             }
         }
         Ok(Ok(()))

@@ -25,6 +25,19 @@ pub fn entries(folder: &Path) -> Result<Vec<PathBuf>, Stop> {
     Ok(paths)
 }
 
+/// Every file of Rattle code below a folder.
+pub fn sources(folder: &Path) -> Result<Vec<PathBuf>, Stop> {
+    let mut found = Vec::new();
+    for path in entries(folder)? {
+        if path.is_dir() {
+            found.extend(sources(&path)?);
+        } else if path.extension().is_some_and(|extension| extension == "rt") {
+            found.push(path);
+        }
+    }
+    Ok(found)
+}
+
 pub fn make_folder(folder: &Path) -> Result<(), Stop> {
     at(folder, fs::create_dir_all(folder))
 }

@@ -9,6 +9,7 @@ mod operators;
 mod repository;
 #[cfg(test)]
 mod tests;
+mod together;
 mod trial;
 
 use std::process::ExitCode;
@@ -17,7 +18,7 @@ use repository::Repository;
 
 const USAGE: &str = "usage, at the root of the repository:
   wrong edits [CRATE | CRATE/LABEL ..]    try the wrong programs of wrong/CRATE/*.edit
-  wrong mutants CRATE [COUNT [SEED]]      try seeded one-place changes of a crate's code";
+  wrong mutants PART [COUNT [SEED]]       try seeded one-place changes of a crate's code, or of CRATE::MODULE or CRATE::FUNCTION";
 
 /// What stopped the work, in words.
 pub type Stop = String;
@@ -43,10 +44,10 @@ fn main() -> ExitCode {
 fn run(words: &[&str]) -> Option<Result<bool, Stop>> {
     match words {
         ["edits", parts @ ..] => Some(Repository::here().and_then(|repository| edits::try_edits(&repository, parts))),
-        ["mutants", name, rest @ ..] if rest.len() <= 2 => {
+        ["mutants", part, rest @ ..] if rest.len() <= 2 => {
             let count = rest.first().map_or(Some(40), |word| word.parse().ok())?;
             let seed = rest.get(1).map_or(Some(1), |word| word.parse().ok())?;
-            Some(Repository::here().and_then(|repository| mutants::try_mutants(&repository, name, count, seed)))
+            Some(Repository::here().and_then(|repository| mutants::try_mutants(&repository, part, count, seed)))
         }
         _ => None,
     }

@@ -1,13 +1,14 @@
 //! Mutants of a crate: seeded one-place changes of its code, tried like edits.
 
 use std::fs;
-use std::path::{Path, PathBuf};
+use std::path::PathBuf;
 use std::time::Instant;
 
 use crate::code::{tokens, Declared};
-use crate::files::{at, entries, read};
+use crate::files::{at, read, sources};
 use crate::operators::{mutants, Mutant};
 use crate::repository::Repository;
+use crate::together::Code;
 use crate::trial::{check, side_by_side, warm, Tried, Verdict};
 use crate::Stop;
 
@@ -22,18 +23,23 @@ struct Placed {
     mutant: Mutant,
 }
 
-/// Whether none of `count` mutants that are programs survived.
-pub fn try_mutants(repository: &Repository, name: &str, count: usize, seed: u64) -> Result<bool, Stop> {
+/// Whether none of `count` mutants that are programs survived, of a crate, or of a module or function of it (`motikhund::block`).
+pub fn try_mutants(repository: &Repository, part: &str, count: usize, seed: u64) -> Result<bool, Stop> {
+    let (name, inner) = part.split_once("::").map_or((part, None), |(name, inner)| (name, Some(inner)));
     if !repository.has(name) {
         return Err(format!("crates.txt lists no crate {name}"));
     }
     let begin = Instant::now();
     let mut all = placed(repository, name)?;
+    if let Some(inner) = inner {
+        let code = Code::of(&repository.source(name))?;
+        all.retain(|one| code.at(&one.file, one.mutant.at.start).is_some_and(|path| is_in(path, inner)));
+    }
     let there = all.len();
     shuffle(&mut all, seed);
     warm(repository, &[name])?;
     let kept = repository.keep(&[name])?;
-    println!("mutants of {name}: {there} one-place changes, {count} programs among them to be tried, seed {seed}");
+    println!("mutants of {part}: {there} one-place changes, {count} programs among them to be tried, seed {seed}");
     let (mut refused, mut survived, mut none) = (0, 0, 0);
     // Some changes are no programs: as many more are drawn until enough were judged by the prover.
     while refused + survived < count && !all.is_empty() {
@@ -54,8 +60,13 @@ pub fn try_mutants(repository: &Repository, name: &str, count: usize, seed: u64)
     kept.unchanged()?;
     repository.leave()?;
     let seconds = begin.elapsed().as_secs_f64();
-    println!("mutants of {name}: {} tried, {refused} refused, {survived} survived; {none} more were no programs ({seconds:.0} s)", refused + survived);
+    println!("mutants of {part}: {} tried, {refused} refused, {survived} survived; {none} more were no programs ({seconds:.0} s)", refused + survived);
     Ok(survived == 0)
+}
+
+/// Whether a function is the one that is meant, or stands in the module that is.
+pub fn is_in(path: &str, inner: &str) -> bool {
+    path.strip_prefix(inner).is_some_and(|rest| rest.is_empty() || rest.starts_with("::"))
 }
 
 /// Every change of every file of the crate's code.
@@ -86,18 +97,6 @@ fn placed_at(text: &str, file: PathBuf, mutant: Mutant) -> Placed {
     let before = flat(&text[start..end]);
     let after = flat(&format!("{}{}{}", &text[start..mutant.at.start], mutant.new, &text[mutant.at.end..end]));
     Placed { file, line, before, after, mutant }
-}
-
-fn sources(folder: &Path) -> Result<Vec<PathBuf>, Stop> {
-    let mut found = Vec::new();
-    for path in entries(folder)? {
-        if path.is_dir() {
-            found.extend(sources(&path)?);
-        } else if path.extension().is_some_and(|extension| extension == "rt") {
-            found.push(path);
-        }
-    }
-    Ok(found)
 }
 
 fn try_one(repository: &Repository, name: &str, placed: &Placed, slot: usize) -> Result<Tried, Stop> {

@@ -17,7 +17,7 @@ pub struct Mutant {
 pub fn mutants(text: &str, tokens: &[Token], declared: &Declared) -> Vec<Mutant> {
     let mut found = Vec::new();
     for body in bodies(tokens) {
-        for at in body.clone() {
+        for at in body.tokens {
             comparison(tokens, at, &mut found);
             constant(tokens, at, &mut found);
             branch(tokens, at, &mut found);

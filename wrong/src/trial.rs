@@ -23,12 +23,14 @@ pub enum Verdict {
 pub struct Tried {
     pub verdict: Verdict,
     pub log: String,
+    /// How long the check took, and how many edits shared it.
     pub seconds: f64,
+    pub edits: usize,
 }
 
 impl Tried {
     pub fn never(why: String) -> Tried {
-        Tried { verdict: Verdict::NoProgram(why), log: String::new(), seconds: 0.0 }
+        Tried { verdict: Verdict::NoProgram(why), log: String::new(), seconds: 0.0, edits: 1 }
     }
 }
 
@@ -40,7 +42,7 @@ pub fn check(shadow: &Shadow) -> Result<Tried, Stop> {
     let copied = format!("{}/", shadow.copied().display());
     let log = [ran.stdout, ran.stderr].map(|bytes| String::from_utf8_lossy(&bytes).replace(&copied, "")).concat();
     let verdict = verdict(ran.status.code(), &log);
-    Ok(Tried { verdict, log, seconds: begin.elapsed().as_secs_f64() })
+    Ok(Tried { verdict, log, seconds: begin.elapsed().as_secs_f64(), edits: 1 })
 }
 
 /// As the toolchain's own gate judges an edit: refused by the prover is status 1 with its line; status 1 without that line is the compiler's.
@@ -54,6 +56,48 @@ pub fn verdict(status: Option<i32>, log: &str) -> Verdict {
             first_line(log)
         )),
     }
+}
+
+/// What a log says of one function alone, with its part of the log: a refusal, if the prover says that this function is not proved and does not lay
+/// it to another, and shows why: an error in its own proof, not for the code's shape, or a need that no proof was found of.
+pub fn own_verdict(name: &str, path: &str, log: &str) -> Option<(Verdict, String)> {
+    let lines: Vec<&str> = log.lines().collect();
+    let said = format!("fn {name}::{path}: ");
+    let at = lines.iter().position(|line| line.starts_with(&said))?;
+    let own = match &lines[at][said.len()..] {
+        "not proved" => errors_in(&format!("proofs/{}/", path.replace("::", "/")), &lines),
+        why if why.starts_with("no proof: ") && why.contains("`search` does not close") => notes_before(at, &lines),
+        _ => return None,
+    };
+    if own.is_empty() || for_shape(&own) {
+        return None;
+    }
+    Some((Verdict::Refused { place: first_place(&own), shape: false }, format!("{own}{}\n", lines[at])))
+}
+
+/// The errors in a folder, each with the indented lines behind it.
+fn errors_in(folder: &str, lines: &[&str]) -> String {
+    let mut inside = false;
+    let mut own = String::new();
+    for line in lines {
+        if !line.starts_with(' ') {
+            inside = line.starts_with(folder) && line.contains(": error");
+        }
+        if inside {
+            own.push_str(line);
+            own.push('\n');
+        }
+    }
+    own
+}
+
+/// What is noted above the line on a function, behind that on the one before.
+fn notes_before(at: usize, lines: &[&str]) -> String {
+    let before =
+        lines[..at].iter().rposition(|line| ["fn ", "struct ", "enum "].iter().any(|start| line.starts_with(start)));
+    let notes = &lines[before.map_or(0, |before| before + 1)..at];
+    let first = notes.iter().position(|line| line.starts_with("note: src/"));
+    first.map_or(String::new(), |first| notes[first..].iter().map(|line| format!("{line}\n")).collect())
 }
 
 /// Where the first error stands; a refusal without one stands in a note.
