@@ -34,7 +34,7 @@ use Rattle.framer.proofs.Behind.{framed-run}
 use Rattle.hub.specs.Joiner.{Joiner, Output, added, repeated, handed, refused, answered, refusing, barring}
 use Rattle.hub.specs.Hub.{HubState, heardStep, hubStep}
 use Rattle.hub.specs.Promises.{toldOf, answerOf, messageOf, soundOf, joinerOf, stateOf, accepts, controlAfter, clearedControl, hubAnswerSize, tooSmall, Hears}
-use Rattle.hub.specs.Block.{blockSize, answersOf, handsOut, namedAs, nameOf, leaves, tooLong, takenOf, blockToldOf, HubAt, stateAt, hearStep, runOf, leftBy, Block, TakesBytes, HearsBlock}
+use Rattle.hub.specs.Block.{blockSize, allOf, sentBy, answersOf, handsOut, namedBy, namesOf, lastOf, nameOf, leaves, tooLong, takenOf, blockToldOf, HubAt, stateAt, hearStep, runOf, leftBy, Block, TakesBytes, HearsBlock}
 use Rattle.hub.specs.declared.Hub.{Hub}
 use Rattle.hub.specs.declared.Told.{Told}
 use Rattle.hub.specs.declared.Told.the-variants as told
@@ -46,23 +46,40 @@ use Rattle.hub.proofs.Outcomes.{Outcome, nothing, plain, bars, again, m
 
 -- ---- what is told of two runs in a row
 
+pub all-append : {A : Type 0} (brings : Output → List A) (xs ys : List Output) → allOf brings (xs ++ ys) ≡ allOf brings xs ++ allOf brings ys
+unfolding allOf
+all-append brings [] ys = refl
+all-append {A} brings (x ∷ xs) ys = ap (λ (l : List A). brings x ++ l) (all-append brings xs ys) ∙ sym (append-assoc (brings x) (allOf brings xs) (allOf brings ys))
+
 pub answers-append : (xs ys : List Output) → answersOf (xs ++ ys) ≡ answersOf xs ++ answersOf ys
-unfolding answersOf
-answers-append [] ys = refl
-answers-append (added ∷ xs) ys = answers-append xs ys
-answers-append (repeated ∷ xs) ys = answers-append xs ys
-answers-append (handed code bytes ∷ xs) ys = answers-append xs ys
-answers-append (refused r ∷ xs) ys = answers-append xs ys
-answers-append (answered bytes ∷ xs) ys = ap (λ (l : List ℕ). bytes ++ l) (answers-append xs ys) ∙ sym (append-assoc bytes (answersOf xs) (answersOf ys))
+answers-append = all-append sentBy
+
+pub names-append : (xs ys : List Output) → namesOf (xs ++ ys) ≡ namesOf xs ++ namesOf ys
+names-append = all-append namedBy
+
+last-append : {A : Type 0} (a : A) (xs ys : List A) → lastOf a (xs ++ ys) ≡ lastOf (lastOf a xs) ys
+unfolding lastOf
+last-append a [] ys = refl
+last-append a (x ∷ xs) ys = last-append x xs ys
 
 pub name-append : (t : Told) (xs ys : List Output) → nameOf t (xs ++ ys) ≡ nameOf (nameOf t xs) ys
-unfolding nameOf
-name-append t [] ys = refl
-name-append t (added ∷ xs) ys = name-append t xs ys
-name-append t (repeated ∷ xs) ys = name-append t xs ys
-name-append t (handed code bytes ∷ xs) ys = name-append (told.Message code (length bytes)) xs ys
-name-append t (refused r ∷ xs) ys = name-append (namedAs t (told.Refused r)) xs ys
-name-append t (answered bytes ∷ xs) ys = name-append t xs ys
+name-append t xs ys = ap (lastOf t) (names-append xs ys) ∙ last-append t (namesOf xs) (namesOf ys)
+
+-- What is named behind one that was told, and was a name or not.
+abbrev pub namedAs : Told → Told → Told
+namedAs before told.Nothing = before
+namedAs before told.Added = before
+namedAs before told.Repeated = before
+namedAs before (told.Message code count) = told.Message code count
+namedAs before (told.Refused r) = pick (ltb (numberOf r) 3) (told.Refused r) before
+
+pub name-refused : (t : Told) (r : Refusal) (os : List Output) → nameOf t (refused r ∷ os) ≡ nameOf (namedAs t (told.Refused r)) os
+unfolding allOf lastOf
+name-refused t r os = by (ltb (numberOf r) 3)
+  where
+    by : (d : Bool) → lastOf t (pick d (told.Refused r ∷ []) [] ++ namesOf os) ≡ lastOf (pick d (told.Refused r) t) (namesOf os)
+    by true = refl
+    by false = refl
 
 -- Where no message was handed out before.
 pub hands-append : (xs ys : List Output) → handsOut xs ≡ false → handsOut (xs ++ ys) ≡ handsOut ys
@@ -90,12 +107,12 @@ no-message xs e = ap messageOf (sym (append-nil xs)) ∙ message-append xs [] e
 -- ---- what is told of one event
 
 answers-given : (b : List ℕ) → answersOf (given answered b) ≡ b
-unfolding given answersOf
+unfolding given allOf
 answers-given [] = refl
 answers-given (x ∷ xs) = append-nil (x ∷ xs)
 
 name-given : (t : Told) (b : List ℕ) → nameOf t (given answered b) ≡ t
-unfolding given nameOf
+unfolding given allOf lastOf
 name-given t [] = refl
 name-given t (x ∷ xs) = refl
 
@@ -149,16 +166,16 @@ pub record Once (os : List Output) : Type 0 where
   pub hands : (room : ℕ) → leavesAt (toldOf os) room ≡ either (handsOut os) (ltb room hubAnswerSize)
 
 refused-once : (x : Refusal) → Once (refusing x)
-unfolding answersOf answerOf nameOf handsOut toldOf
+unfolding allOf answerOf lastOf handsOut toldOf
 refused-once x =
     record {
       answers = answers-given (nakBytes host x) ∙ sym (answer-given (nakBytes host x));
-      names = λ t. name-given (namedAs t (told.Refused x)) (nakBytes host x);
+      names = λ t. name-refused t x (given answered (nakBytes host x)) ∙ name-given (namedAs t (told.Refused x)) (nakBytes host x);
       hands = λ room. simp (hands-given (nakBytes host x));
     }
 
 once : {least : ℕ} {j : Joiner} {body : List ℕ} {d : Done Joiner Output} → Outcome least j body d → Once (d .told)
-unfolding barring answersOf answerOf nameOf handsOut toldOf
+unfolding barring allOf answerOf lastOf handsOut toldOf
 once nothing = record { answers = refl; names = λ t. refl; hands = λ room. refl }
 once (plain {x = x} l m c) = refused-once x
 once (bars l) = refused-once refusal.Barred
@@ -270,7 +287,7 @@ module _ (room : ℕ) (os : List Output) where
   stays-open q = stays-by (handsOut os) refl q
 
 pub goes-first : {hub : Hub} {line gather answer message bytes : List ℕ} → hubAnswerSize ≤ length answer → Goes hub line gather answer message bytes hub told.Nothing 0 0 line gather answer message
-unfolding through leaves handsOut answersOf nameOf messageOf
+unfolding through leaves handsOut allOf lastOf messageOf
 goes-first {hub} {line} {gather} {answer} {message} {bytes} h =
     record {
       os = [];
@@ -548,7 +565,7 @@ abbrev pub refusedBlock : Hub → Refusal → Block
 refusedBlock hub x = record { hub = hub; taken = 0; told = told.Refused x; answer = 0 }
 
 takes-nothing : {hub : Hub} {line gather answer message bytes : List ℕ} (x : Refusal) → TakesBytes hub line gather answer message bytes (refusedBlock hub x) line gather answer message
-unfolding through answersOf messageOf
+unfolding through allOf messageOf
 takes-nothing {answer = answer} {message = message} x = record { size-is = refl; left-is = refl; next = refl; answer-is = sym (over-nil answer); message-is = sym (over-nil message) }
 
 -- Number 13,

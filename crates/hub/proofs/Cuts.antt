@@ -26,33 +26,30 @@ use Rattle.framer.specs.declared.Event.the-variants.{Byte}
 use Rattle.hub.specs.Joiner.{Joiner, Output, added, repeated, handed, refused, answered, refusing, bytesOf, typeIn, pieceIn, barring}
 use Rattle.hub.specs.Hub.{HubState, heardStep, cleared, hubStep}
 use Rattle.hub.specs.Promises.{toldOf, answerOf, messageOf, stateOf, hubAnswerSize, tooSmall, Hears}
-use Rattle.hub.specs.Block.{answersOf, handsOut, namedAs, nameOf, leaves, tooLong, takenOf, blockToldOf, HubAt, stateAt, hearStep, Block, HearsBlock}
-use Rattle.hub.specs.Cuts.{Message, messagesOf, namesOf, messageIn, OneByOne, none, one, InBlocks, call, Brings}
+use Rattle.hub.specs.Block.{allOf, answersOf, handsOut, namesOf, lastOf, nameOf, leaves, tooLong, takenOf, blockToldOf, HubAt, stateAt, hearStep, Block, HearsBlock}
+use Rattle.hub.specs.Cuts.{Message, handedBy, messagesOf, messageIn, OneByOne, none, one, InBlocks, call, Brings}
 use Rattle.hub.specs.declared.Hub.{Hub}
 use Rattle.hub.specs.declared.Told.{Told}
 use Rattle.hub.specs.declared.Told.the-variants as told
 use Rattle.hub.specs.declared.Taken.{Taken}
-use Rattle.hub.proofs.Blocks.{answers-append, name-append, hands-append, message-append, told-once, heard-at, left-append}
+use Rattle.hub.proofs.Blocks.{all-append, answers-append, names-append, name-append, name-refused, hands-append, message-append, told-once, heard-at, left-append}
 use Rattle.hub.proofs.Outcomes.{Outcome, nothing, plain, bars, again, more, whole, event-happens, event-line}
 
 -- ---- what is told of two runs in a row
 
 messages-append : (xs ys : List Output) → messagesOf (xs ++ ys) ≡ messagesOf xs ++ messagesOf ys
-unfolding messagesOf
-messages-append [] ys = refl
-messages-append (added ∷ xs) ys = messages-append xs ys
-messages-append (repeated ∷ xs) ys = messages-append xs ys
-messages-append (handed code bytes ∷ xs) ys = ap (λ (ms : List Message). record { code = code; bytes = bytes } ∷ ms) (messages-append xs ys)
-messages-append (refused r ∷ xs) ys = messages-append xs ys
-messages-append (answered bytes ∷ xs) ys = messages-append xs ys
+messages-append = all-append handedBy
 
 -- Nothing that a block would name.
 pub record Nameless (os : List Output) : Type 0 where
   pub messages : messagesOf os ≡ []
   pub first : messageOf os ≡ []
   pub names : namesOf os ≡ []
-  pub name : (t : Told) → nameOf t os ≡ t
   pub hands : handsOut os ≡ false
+
+nameless-name : {os : List Output} (t : Told) → Nameless os → nameOf t os ≡ t
+unfolding lastOf
+nameless-name t n = ap (lastOf t) (n .names)
 
 -- What a block tells by name comes at its end.
 pub data Ends : List Output → Type 0 where
@@ -60,26 +57,12 @@ pub data Ends : List Output → Type 0 where
   with-message : {os : List Output} (code : ℕ) (bytes answer : List ℕ) → Nameless os → Ends (os ++ (handed code bytes ∷ answered answer ∷ []))
   with-turned : {os : List Output} (x : Refusal) → numberOf x < 3 → Nameless os → Ends (os ++ refusing x)
 
-names-append : (xs ys : List Output) → namesOf (xs ++ ys) ≡ namesOf xs ++ namesOf ys
-unfolding namesOf
-names-append [] ys = refl
-names-append (added ∷ xs) ys = names-append xs ys
-names-append (repeated ∷ xs) ys = names-append xs ys
-names-append (handed code bytes ∷ xs) ys = ap (λ (ts : List Told). told.Message code (length bytes) ∷ ts) (names-append xs ys)
-names-append (refused r ∷ xs) ys = by (names-append xs ys) (ltb (numberOf r) 3)
-  where
-    by : namesOf (xs ++ ys) ≡ namesOf xs ++ namesOf ys → (d : Bool) → pick d (told.Refused r ∷ namesOf (xs ++ ys)) (namesOf (xs ++ ys)) ≡ pick d (told.Refused r ∷ namesOf xs) (namesOf xs) ++ namesOf ys
-    by e true = ap (λ (ts : List Told). told.Refused r ∷ ts) e
-    by e false = e
-names-append (answered bytes ∷ xs) ys = names-append xs ys
-
 nameless-append : {xs ys : List Output} → Nameless xs → Nameless ys → Nameless (xs ++ ys)
 nameless-append {xs} {ys} p q =
     record {
       messages = messages-append xs ys ∙ rw (p .messages, q .messages) refl;
       first = message-append xs ys (p .hands) ∙ q .first;
       names = names-append xs ys ∙ rw (p .names, q .names) refl;
-      name = λ t. name-append t xs ys ∙ (ap (λ (u : Told). nameOf u ys) (p .name t) ∙ q .name t);
       hands = hands-append xs ys (p .hands) ∙ q .hands;
     }
 
@@ -91,12 +74,12 @@ data Wording : List Output → Type 0 where
   says-turned : (x : Refusal) → numberOf x < 3 → Wording (refusing x)
 
 given-nameless : (b : List ℕ) → Nameless (given answered b)
-unfolding given messagesOf messageOf namesOf nameOf handsOut
-given-nameless [] = record { messages = refl; first = refl; names = refl; name = λ t. refl; hands = refl }
-given-nameless (x ∷ xs) = record { messages = refl; first = refl; names = refl; name = λ t. refl; hands = refl }
+unfolding given allOf messageOf lastOf handsOut
+given-nameless [] = record { messages = refl; first = refl; names = refl; hands = refl }
+given-nameless (x ∷ xs) = record { messages = refl; first = refl; names = refl; hands = refl }
 
 refusing-by : (x : Refusal) (d : Bool) → ltb (numberOf x) 3 ≡ d → Wording (refusing x)
-unfolding messagesOf messageOf namesOf nameOf handsOut
+unfolding allOf messageOf lastOf handsOut
 refusing-by x true e = says-turned x (ltb-true (numberOf x) 3 e)
 refusing-by x false e =
     let g = given-nameless (nakBytes host x) in
@@ -105,17 +88,16 @@ refusing-by x false e =
       messages = g .messages;
       first = g .first;
       names = simp e (g .names);
-      name = λ t. g .name (namedAs t (told.Refused x)) ∙ simp e;
       hands = g .hands;
     })
 
 wording : {least : ℕ} {j : Joiner} {body : List ℕ} {d : Done Joiner Output} → Outcome least j body d → Wording (d .told)
-unfolding barring messagesOf messageOf namesOf nameOf handsOut
-wording nothing = says-nothing (record { messages = refl; first = refl; names = refl; name = λ t. refl; hands = refl })
+unfolding barring allOf messageOf lastOf handsOut
+wording nothing = says-nothing (record { messages = refl; first = refl; names = refl; hands = refl })
 wording (plain {x = x} l m c) = refusing-by x (ltb (numberOf x) 3) refl
 wording (bars l) = refusing-by refusal.Barred (ltb 10 3) refl
-wording (again b) = says-nothing (record { messages = refl; first = refl; names = refl; name = λ t. refl; hands = refl })
-wording (more b m) = says-nothing (record { messages = refl; first = refl; names = refl; name = λ t. refl; hands = refl })
+wording (again b) = says-nothing (record { messages = refl; first = refl; names = refl; hands = refl })
+wording (more b m) = says-nothing (record { messages = refl; first = refl; names = refl; hands = refl })
 wording (whole b m) = says-message _ _ _
 
 event-wording : (s : HubState) (e : Event) → Wording (hubStep s e .told)
@@ -171,12 +153,12 @@ run-ends room s before (b ∷ bs) n =
     ends-with room s before b bs n (λ more k. run-ends room (hubStep s (Byte b) .next) more bs k) (leaves room before) refl
 
 nameless-nil : Nameless []
-unfolding messagesOf messageOf namesOf nameOf handsOut
-nameless-nil = record { messages = refl; first = refl; names = refl; name = λ t. refl; hands = refl }
+unfolding allOf messageOf lastOf handsOut
+nameless-nil = record { messages = refl; first = refl; names = refl; hands = refl }
 
 -- At most one name,
 ends-once : {os : List Output} → Ends os → length (namesOf os) ≤ 1
-unfolding namesOf
+unfolding allOf
 ends-once (unnamed n) = rw (n .names) (omega arith)
 ends-once (with-message {os} code bytes answer n) = rw (names-append os (handed code bytes ∷ answered answer ∷ []), n .names) (omega arith)
 ends-once (with-turned {os} x l n) =
@@ -185,11 +167,11 @@ ends-once (with-turned {os} x l n) =
 
 -- and the message that the room then holds is the only one of the run.
 ends-message : {os : List Output} (room : List ℕ) → Ends os → messageIn (nameOf told.Nothing os) (over (messageOf os) room) ≡ messagesOf os
-unfolding messagesOf messageOf nameOf
-ends-message room (unnamed n) = rw (n .name told.Nothing, n .messages) refl
+unfolding allOf messageOf lastOf
+ends-message room (unnamed n) = rw (nameless-name told.Nothing n, n .messages) refl
 ends-message room (with-message {os} code bytes answer n) =
     let ts : List Output = handed code bytes ∷ answered answer ∷ [] in
-    let name : nameOf told.Nothing (os ++ ts) ≡ told.Message code (length bytes) = name-append told.Nothing os ts ∙ ap (λ (t : Told). nameOf t ts) (n .name told.Nothing) in
+    let name : nameOf told.Nothing (os ++ ts) ≡ told.Message code (length bytes) = name-append told.Nothing os ts ∙ ap (λ (t : Told). nameOf t ts) (nameless-name told.Nothing n) in
     let all : messagesOf (os ++ ts) ≡ record { code = code; bytes = bytes } ∷ [] = messages-append os ts ∙ ap (λ (ms : List Message). ms ++ messagesOf ts) (n .messages) in
     ap (λ (t : Told). messageIn t (over (messageOf (os ++ ts)) room)) name
     ∙ (ap (λ (l : List ℕ). record { code = code; bytes = take (length bytes) (over l room) } ∷ []) (message-append os ts (n .hands))
@@ -197,14 +179,14 @@ ends-message room (with-message {os} code bytes answer n) =
 ends-message room (with-turned {os} x l n) =
     let g = given-nameless (nakBytes host x) in
     let name : nameOf told.Nothing (os ++ refusing x) ≡ told.Refused x =
-    name-append told.Nothing os (refusing x) ∙ (ap (λ (t : Told). nameOf t (refusing x)) (n .name told.Nothing) ∙ (ap (λ (t : Told). nameOf t (given answered (nakBytes host x))) (simp (lt-ltb (numberOf x) 3 l)) ∙ g .name (told.Refused x))) in
+    name-append told.Nothing os (refusing x) ∙ (ap (λ (t : Told). nameOf t (refusing x)) (nameless-name told.Nothing n) ∙ (name-refused told.Nothing x (given answered (nakBytes host x)) ∙ (ap (λ (t : Told). nameOf t (given answered (nakBytes host x))) (simp (lt-ltb (numberOf x) 3 l)) ∙ nameless-name (told.Refused x) g))) in
     let all : messagesOf (os ++ refusing x) ≡ [] = messages-append os (refusing x) ∙ rw (n .messages) (g .messages) in
     ap (λ (t : Told). messageIn t (over (messageOf (os ++ refusing x)) room)) name ∙ sym all
 
 -- ---- a call
 
 room-first : (answer message : List ℕ) → tooSmall answer message ≡ false → leaves (length answer) [] ≡ false
-unfolding tooSmall leaves handsOut answersOf
+unfolding tooSmall leaves handsOut allOf
 room-first answer message e = by (ltb (length answer) hubAnswerSize) refl e
   where
     by : (d : Bool) → ltb (length answer) hubAnswerSize ≡ d → either d (ltb (length message) messageSize) ≡ false → ltb (length answer - 0) hubAnswerSize ≡ false
@@ -249,7 +231,7 @@ module _ {hub : Hub} {line gather answer message bytes line′ gather′ answer�
 -- ---- one by one, and in blocks
 
 one-message : {least : ℕ} {j : Joiner} {body : List ℕ} {d : Done Joiner Output} (room : List ℕ) → Outcome least j body d → messageIn (toldOf (d .told)) (over (messageOf (d .told)) room) ≡ messagesOf (d .told)
-unfolding barring toldOf messagesOf messageOf
+unfolding barring toldOf allOf messageOf
 one-message room nothing = refl
 one-message room (plain {x = x} l m c) = sym (given-nameless (nakBytes host x) .messages)
 one-message room (bars l) = sym (given-nameless (nakBytes host refusal.Barred) .messages)
@@ -278,7 +260,7 @@ brings-more {h} {h₁} {h′} {es} {fs} {ms} {ns} {p} {q} a b =
     }
 
 brings-none : {h : HubAt} → Brings h [] h [] []
-unfolding through messagesOf answersOf
+unfolding through allOf
 brings-none = record { left = refl; state = refl; messages = refl; answers = refl }
 
 brings-one : {hub : Hub} {line gather answer message line₁ gather₁ answer₁ message₁ : List ℕ} {e : Event} {r : Taken} → tooSmall answer message ≡ false →

@@ -26,15 +26,23 @@ blockSize = 4096
 
 -- ---- what is told of a run
 
--- All that goes out, one after the other; and whether a message was handed out.
-unfoldable pub answersOf : List Output → List ℕ
-answersOf [] = []
-answersOf (added ∷ xs) = answersOf xs
-answersOf (repeated ∷ xs) = answersOf xs
-answersOf (handed code bytes ∷ xs) = answersOf xs
-answersOf (refused r ∷ xs) = answersOf xs
-answersOf (answered bytes ∷ xs) = bytes ++ answersOf xs
+-- What each of these brings, in order.
+unfoldable pub allOf : {A : Type 0} → (Output → List A) → List Output → List A
+allOf brings [] = []
+allOf brings (o ∷ os) = brings o ++ allOf brings os
 
+-- All that goes out, one after the other.
+abbrev pub sentBy : Output → List ℕ
+sentBy added = []
+sentBy repeated = []
+sentBy (handed code bytes) = []
+sentBy (refused r) = []
+sentBy (answered bytes) = bytes
+
+abbrev pub answersOf : List Output → List ℕ
+answersOf os = allOf sentBy os
+
+-- Whether a message was handed out.
 unfoldable pub handsOut : List Output → Bool
 handsOut [] = false
 handsOut (added ∷ xs) = handsOut xs
@@ -43,22 +51,24 @@ handsOut (handed code bytes ∷ xs) = true
 handsOut (refused r ∷ xs) = handsOut xs
 handsOut (answered bytes ∷ xs) = handsOut xs
 
--- What a block tells by name, behind what it named before: a message, and refusals 1 and 2. All else was answered on the line, and the answer says it.
-abbrev pub namedAs : Told → Told → Told
-namedAs before told.Nothing = before
-namedAs before told.Added = before
-namedAs before told.Repeated = before
-namedAs before (told.Message code count) = told.Message code count
-namedAs before (told.Refused r) = pick (ltb (numberOf r) 3) (told.Refused r) before
+-- What a block tells by name: a message, and refusals 1 and 2. All else was answered on the line, and the answer says it.
+abbrev pub namedBy : Output → List Told
+namedBy added = []
+namedBy repeated = []
+namedBy (handed code bytes) = told.Message code (length bytes) ∷ []
+namedBy (refused r) = pick (ltb (numberOf r) 3) (told.Refused r ∷ []) []
+namedBy (answered bytes) = []
 
--- The last of them; there is at most one (`one-name`).
-unfoldable pub nameOf : Told → List Output → Told
-nameOf before [] = before
-nameOf before (added ∷ xs) = nameOf before xs
-nameOf before (repeated ∷ xs) = nameOf before xs
-nameOf before (handed code bytes ∷ xs) = nameOf (told.Message code (length bytes)) xs
-nameOf before (refused r ∷ xs) = nameOf (namedAs before (told.Refused r)) xs
-nameOf before (answered bytes ∷ xs) = nameOf before xs
+abbrev pub namesOf : List Output → List Told
+namesOf os = allOf namedBy os
+
+-- The last of them, behind what was named before; there is at most one (`one-name`).
+unfoldable pub lastOf : {A : Type 0} → A → List A → A
+lastOf before [] = before
+lastOf before (x ∷ xs) = lastOf x xs
+
+abbrev pub nameOf : Told → List Output → Told
+nameOf before os = lastOf before (namesOf os)
 
 -- ---- how far it goes
 

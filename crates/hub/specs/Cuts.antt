@@ -3,17 +3,15 @@ use Prim.Native.Nat.{ℕ}
 use mathlib.Core.Bool.{false}
 use mathlib.Core.List.{List, [], _∷_, _++_, map}
 use mathlib.Core.Path.{_≡_}
-use lib.Dec.{ltb}
 use lib.ListN.{length, take, drop}
 use Rattle.words.specs.Lists.{pick}
 use Rattle.words.specs.Machine.{through}
-use Rattle.packet.specs.Refusals.{numberOf}
 use Rattle.framer.specs.declared.Event.{Event}
 use Rattle.framer.specs.declared.Event.the-variants.{Byte}
 use Rattle.hub.specs.Joiner.{Output, added, repeated, handed, refused, answered}
 use Rattle.hub.specs.Hub.{hubStep}
 use Rattle.hub.specs.Promises.{tooSmall, Hears}
-use Rattle.hub.specs.Block.{answersOf, tooLong, HubAt, stateAt, hearStep, Block, HearsBlock}
+use Rattle.hub.specs.Block.{allOf, answersOf, tooLong, HubAt, stateAt, hearStep, Block, HearsBlock}
 use Rattle.hub.specs.declared.Hub.{Hub}
 use Rattle.hub.specs.declared.Told.{Told}
 use Rattle.hub.specs.declared.Told.the-variants as told
@@ -24,22 +22,15 @@ pub record Message : Type 0 where
   pub bytes : List ℕ
 
 -- All messages of a run, in order.
-unfoldable pub messagesOf : List Output → List Message
-messagesOf [] = []
-messagesOf (added ∷ xs) = messagesOf xs
-messagesOf (repeated ∷ xs) = messagesOf xs
-messagesOf (handed code bytes ∷ xs) = record { code = code; bytes = bytes } ∷ messagesOf xs
-messagesOf (refused r ∷ xs) = messagesOf xs
-messagesOf (answered bytes ∷ xs) = messagesOf xs
+abbrev pub handedBy : Output → List Message
+handedBy added = []
+handedBy repeated = []
+handedBy (handed code bytes) = record { code = code; bytes = bytes } ∷ []
+handedBy (refused r) = []
+handedBy (answered bytes) = []
 
--- All that a block tells by name of a run.
-unfoldable pub namesOf : List Output → List Told
-namesOf [] = []
-namesOf (added ∷ xs) = namesOf xs
-namesOf (repeated ∷ xs) = namesOf xs
-namesOf (handed code bytes ∷ xs) = told.Message code (length bytes) ∷ namesOf xs
-namesOf (refused r ∷ xs) = pick (ltb (numberOf r) 3) (told.Refused r ∷ namesOf xs) (namesOf xs)
-namesOf (answered bytes ∷ xs) = namesOf xs
+abbrev pub messagesOf : List Output → List Message
+messagesOf os = allOf handedBy os
 
 -- The message that a caller finds in its room.
 abbrev pub messageIn : Told → List ℕ → List Message

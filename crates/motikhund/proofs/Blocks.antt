@@ -15,10 +15,11 @@ use Rattle.packet.specs.declared.Refusal.{Refusal}
 use Rattle.packet.specs.declared.Refusal.the-variants as refusal
 use Rattle.hub.specs.Joiner.{Output, added, repeated, handed, refused, answered}
 use Rattle.hub.specs.Promises.{messageOf, tooSmall}
-use Rattle.hub.specs.Block.{answersOf, namedAs, nameOf, tooLong, takenOf, blockToldOf, HubAt, runOf, Block, HearsBlock}
+use Rattle.hub.specs.Block.{allOf, answersOf, lastOf, nameOf, tooLong, takenOf, blockToldOf, HubAt, runOf, Block, HearsBlock}
 use Rattle.hub.specs.declared.Hub.{Hub}
 use Rattle.hub.specs.declared.Told.{Told}
 use Rattle.hub.specs.declared.Told.the-variants as told
+use Rattle.hub.proofs.Blocks.{namedAs, name-refused}
 
 -- ---- no byte taken
 
@@ -34,7 +35,7 @@ pub none-taken : {hub : Hub} {line gather answer message bytes line′ gather′
     HearsBlock hub line gather answer message bytes block line′ gather′ answer′ message′ →
     block .taken ≡ 0 →
     Unmoved hub line gather answer message block line′ gather′ answer′ message′
-unfolding through answersOf messageOf
+unfolding through allOf messageOf
 none-taken {answer = answer} {message} hears e =
     let left = rw e at (hears .takes .left-is) in
     record {
@@ -57,12 +58,12 @@ low-named t r true e k x f = let y : r ≡ x = cc in rw y at (ltb-true (numberOf
 low-named t r false e k x f = k x f
 
 low-name : (t : Told) (xs : List Output) → Low t → Low (nameOf t xs)
-unfolding nameOf
+unfolding allOf lastOf
 low-name t [] k = k
 low-name t (added ∷ xs) k = low-name t xs k
 low-name t (repeated ∷ xs) k = low-name t xs k
 low-name t (handed code bytes ∷ xs) k = low-name (told.Message code (length bytes)) xs (λ x e. never (cc))
-low-name t (refused r ∷ xs) k = low-name (namedAs t (told.Refused r)) xs (low-named t r (ltb (numberOf r) 3) refl k)
+low-name t (refused r ∷ xs) k = rw (name-refused t r xs) (low-name (namedAs t (told.Refused r)) xs (low-named t r (ltb (numberOf r) 3) refl k))
 low-name t (answered bytes ∷ xs) k = low-name t xs k
 
 -- A refused block: 13 or 15 before its first byte, else 1 or 2 behind one.
@@ -76,7 +77,7 @@ module _ {hub : Hub} {line gather answer message bytes line′ gather′ answer�
   at-once-by y n e t = let g : y ≡ x = cc in at-once (rw g at n) t
 
   behind-by : block .told ≡ nameOf told.Nothing (runOf (record { hub = hub; line = line; gather = gather }) bytes (block .taken) .told) → BlockRefused x block
-  unfolding through nameOf
+  unfolding through allOf lastOf
   behind-by e =
       let g = sym e ∙ f in
       behind-a-byte (low-name told.Nothing (runOf (record { hub = hub; line = line; gather = gather }) bytes (block .taken) .told) (λ y z. never (cc)) x g) (λ z. let n = rw z at g in never (cc))

@@ -18,12 +18,12 @@ use Rattle.framer.specs.Silence.{TakesIn}
 use Rattle.framer.specs.declared.TakenIn.{TakenIn}
 use Rattle.hub.specs.Joiner.{Output, added, repeated, handed, refused, answered}
 use Rattle.hub.specs.Promises.{hubAnswerSize, tooSmall, Hears}
-use Rattle.hub.specs.Block.{blockSize, handsOut, namedAs, nameOf, Block, HearsBlock}
+use Rattle.hub.specs.Block.{blockSize, allOf, handsOut, lastOf, nameOf, Block, HearsBlock}
 use Rattle.hub.specs.declared.Hub.{Hub}
 use Rattle.hub.specs.declared.Taken.{Taken}
 use Rattle.hub.specs.declared.Told.{Told}
 use Rattle.hub.specs.declared.Told.the-variants as told
-use Rattle.hub.proofs.Blocks.{leavesAt, Leaves, Names, Carried, Carries, Reads, Goes, Turn, carries, room-open, goes-first, goes-on, turns, answer-fits, answer-length, goes-again, no-message-yet, reads-all, reads-turn, block-read}
+use Rattle.hub.proofs.Blocks.{namedAs, name-refused, leavesAt, Leaves, Names, Carried, Carries, Reads, Goes, Turn, carries, room-open, goes-first, goes-on, message-same, turns, answer-fits, answer-length, goes-again, no-message-yet, reads-all, reads-turn, block-read}
 use Rattle.motikhund.specs.Lent.{atLeast, Enough, none, more}
 use Rattle.motikhund.specs.Control.{hubControlSize, halfBytes, numberBytes, framerBytes, halvesBytes, gatheringBytes, hubIn, hubBytes, HubIn, PutsHub}
 use Rattle.motikhund.specs.Numbers.{isEvent, eventOf, hubNumber, hubValues, blockValues}
@@ -97,12 +97,12 @@ bare-named before r true b = λ a. refl
 bare-named before r false b = b
 
 bare-name : (t : Told) (os : List Output) → Bare t → handsOut os ≡ false → Bare (nameOf t os)
-unfolding nameOf handsOut
+unfolding allOf lastOf handsOut
 bare-name t [] b e = b
 bare-name t (added ∷ os) b e = bare-name t os b e
 bare-name t (repeated ∷ os) b e = bare-name t os b e
 bare-name t (handed code bytes ∷ os) b e = never (cc)
-bare-name t (refused r ∷ os) b e = bare-name (namedAs t (told.Refused r)) os (bare-named t r (ltb (numberOf r) 3) b) e
+bare-name t (refused r ∷ os) b e = rw (name-refused t r os) (bare-name (namedAs t (told.Refused r)) os (bare-named t r (ltb (numberOf r) 3) b) e)
 bare-name t (answered bytes ∷ os) b e = bare-name t os b e
 
 -- Where a block goes on, an event brought no message.
@@ -161,10 +161,20 @@ pub record Turns (control₀ line₀ gather₀ answer₀ message₀ bytes : List
   pub shows : hubValues name out ≡ out ∷ code ∷ count ∷ []
   pub bare : d ≡ false → (code ≡ 0) × (count ≡ 0)
 
+takes-event : {control line gather answer message : List ℕ} {n r : ℕ} {control′ line′ gather′ answer′ message′ values : List ℕ} →
+    HubHears control line gather answer message n r control′ line′ gather′ answer′ message′ values → hubControlSize ≤ length control → hubAnswerSize ≤ length answer → messageSize ≤ length message → n < 256 →
+    HubTakes control line gather answer message n r control′ line′ gather′ answer′ message′ values
+unfolding isEvent
+takes-event {n = n} h c a m l = h .asks .takes (more c (more a (more m none))) .takes (le-leb n 257 (omega arith))
+
 module _ {control₀ line₀ gather₀ answer₀ message₀ bytes : List ℕ} {number code count at out : ℕ} {control line gather answer message : List ℕ}
     (g : Going control₀ line₀ gather₀ answer₀ message₀ bytes number code count at out control line gather answer message) where
   bare-here : Bare (g .name)
   bare-here = rw (g .goes .reading .told-is) (bare-name told.Nothing (g .goes .os) (λ a. refl) (no-message-yet (g .goes)))
+
+  -- The part of the answer room that is lent has room for an answer.
+  part-long : hubAnswerSize ≤ length (take (length answer - out) (drop out answer))
+  part-long = let o = room-open (g .goes) in simp (length-take, length-drop) (omega arith)
 
   module _ {n : ℕ} {control₁ line₁ : List ℕ} (k : CarriesBytes control line (take (length bytes - at) (drop at bytes)) n control₁ line₁) where
     silent : Carries (hubIn control) line (take (length bytes - at) (drop at bytes)) (carriedBy control (k .taken) n) line₁
@@ -180,7 +190,16 @@ module _ {control₀ line₀ gather₀ answer₀ message₀ bytes : List ℕ} {n
     control-carried : control₁ ≡ over (hubBytes (hubIn control₁)) control₀
     control-carried = k .kept .control-is ∙ (ap (λ (h : Hub). over (hubBytes h) control) (sym (k .kept .reads)) ∙ rebased (hubIn control₁) at control₀ control (g .control-is))
 
-    -- A byte that is an event.
+    -- A byte that is an event, in rooms of full size.
+    pub event : {r : ℕ} {control₂ line₂ gather₂ part message₂ one₂ : List ℕ} → hubControlSize ≤ length control → messageSize ≤ length message → getD bytes (at + n) 0 < 256 →
+        HubHears control₁ line₁ gather (take (length answer - out) (drop out answer)) message (getD bytes (at + n) 0) r control₂ line₂ gather₂ part message₂ one₂ →
+        HubTakes control₁ line₁ gather (take (length answer - out) (drop out answer)) message (getD bytes (at + n) 0) r control₂ line₂ gather₂ part message₂ one₂
+    event long full small h =
+        let carried = carriedBy control (k .taken) n .hub in
+        let size = hub-size carried in
+        let same : length control₁ ≡ length control = ap length (k .kept .control-is) ∙ length-over (hubBytes carried) control (omega arith) in
+        takes-event h (omega arith) part-long full small
+
     module _ {r : ℕ} {control₂ line₂ gather₂ part message₂ one₂ : List ℕ} (end : at + n ≡ length bytes → ⊥) (full : messageSize ≤ length message) (small : getD bytes (at + n) 0 < 256)
         (h : HubTakes control₁ line₁ gather (take (length answer - out) (drop out answer)) message (getD bytes (at + n) 0) r control₂ line₂ gather₂ part message₂ one₂) where
       heard : Hears (carriedBy control (k .taken) n .hub) line₁ gather (take (length answer - out) (drop out answer)) message (Byte (getD bytes (at + n) 0)) (h .taken) line₂ gather₂ part message₂
@@ -276,19 +295,16 @@ going-long {control₀ = control₀} {at = at} {control = control} g h = ap leng
     by true = refl
     by false = let p = hub-size (hubIn control) in length-over (hubBytes (hubIn control)) control₀ (omega arith)
 
+-- Control bytes and message room are still long enough.
+module _ {control₀ line₀ gather₀ answer₀ message₀ bytes : List ℕ} {number code count at out : ℕ} {control line gather answer message : List ℕ}
+    (g : Going control₀ line₀ gather₀ answer₀ message₀ bytes number code count at out control line gather answer message) where
+  pub still-long : hubControlSize ≤ length control₀ → hubControlSize ≤ length control
+  still-long h = let e = going-long g h in omega arith
+
+  pub still-full : messageSize ≤ length message₀ → messageSize ≤ length message
+  still-full h = rw (message-same (g .goes)) h
+
 -- The turns of the inner loop lead on from wherever it was entered.
 pub record Leading (control₀ line₀ gather₀ answer₀ message₀ bytes : List ℕ) (number₀ code₀ count₀ at₀ out₀ : ℕ) (control line gather answer message : List ℕ) (number code count at out : ℕ) : Type 0 where
   pub least : at₀ ≤ at
   pub leads : (c l g a m : List ℕ) → Going c l g a m bytes number₀ code₀ count₀ at₀ out₀ control₀ line₀ gather₀ answer₀ message₀ → Going c l g a m bytes number code count at out control line gather answer message
-
--- An event that is a byte, in rooms of full size.
-pub takes-event : {control line gather answer message : List ℕ} {n r : ℕ} {control′ line′ gather′ answer′ message′ values : List ℕ} →
-    HubHears control line gather answer message n r control′ line′ gather′ answer′ message′ values → hubControlSize ≤ length control → hubAnswerSize ≤ length answer → messageSize ≤ length message → n < 256 →
-    HubTakes control line gather answer message n r control′ line′ gather′ answer′ message′ values
-unfolding isEvent
-takes-event {n = n} h c a m l = h .asks .takes (more c (more a (more m none))) .takes (le-leb n 257 (omega arith))
-
--- The part of the answer room that is lent has room for an answer.
-pub part-long : {control₀ line₀ gather₀ answer₀ message₀ bytes : List ℕ} {number code count at out : ℕ} {control line gather answer message : List ℕ} →
-    Going control₀ line₀ gather₀ answer₀ message₀ bytes number code count at out control line gather answer message → hubAnswerSize ≤ length (take (length answer - out) (drop out answer))
-part-long g = let o = room-open (g .goes) in simp (length-take, length-drop) (omega arith)

@@ -8,11 +8,10 @@ use Rattle.words.specs.Lists.{Each}
 use Rattle.packet.specs.declared.Refusal.{Refusal}
 use Rattle.framer.specs.Refused.{FramerRefuses}
 use Rattle.framer.specs.declared.Framed.{Framed}
-use Rattle.hub.specs.Block.{HearsBlock}
+use Rattle.hub.specs.Block.{Block, HearsBlock}
 use Rattle.hub.specs.Refused.{HubRefuses}
 use Rattle.hub.specs.declared.Taken.{Taken}
 use Rattle.hub.specs.declared.Told.the-variants as told
-use Rattle.hub.specs.Block.{Block}
 use Rattle.reader.specs.Refused.{ReaderRefuses}
 use Rattle.reader.specs.declared.Taken.{Taken as Commanded}
 use Rattle.motikhund.specs.Lent.{Kept}

@@ -1,12 +1,11 @@
 -- `motikhund::block::read` meets its contract. The outer loop keeps what the bytes so far have left; the inner one that each turn leads on from
 -- there. The measure of both is what is left of the bytes. Assumes nothing.
-use Prim.Native.Nat.{ℕ, _+_, _-_, _≤_, _<_}
+use Prim.Native.Nat.{_+_, _-_, _<_}
 use mathlib.Core.Path.{refl, ap, _∙_}
 use native.Mathlib.Omega.{arith}
 use lib.ListN.{length, getD}
-use Rattle.packet.specs.Sizes.{messageSize}
 use Rattle.hub.proofs.Blocks.{before-end, room-length, room-open, message-same}
-use Rattle.motikhund.proofs.Turning.{Going, Leading, going-first, going-long, goes-silent, part-long, takes-event, out-fits, out-length, turned, going-again, takes-all, takes-silent, takes-turn}
+use Rattle.motikhund.proofs.Turning.{Going, Leading, going-first, going-long, still-long, still-full, goes-silent, event, out-fits, out-length, turned, going-again, takes-all, takes-silent, takes-turn}
 use borrow.Author.Needs.{needs}
 use Rattle.motikhund.proofs.block.read.Statement.{statement}
 use Rattle.motikhund.proofs.block.read.Tie as tie
@@ -53,8 +52,7 @@ carry-requires c κs =
     let l = c .before .before .before in
     let s = l .before .before .before .before .before .before .before in
     let g = l .loop .inv .leads _ _ _ _ _ (l .before .before .packets .inv) in
-    let e = going-long g (s .pre .0) in
-    omega (arith, e, s .pre .0)
+    still-long g (s .pre .0)
 
 add-at : tie.Need-add-at Inv-loop μ-loop Inv-packets μ-packets
 add-at c =
@@ -123,12 +121,10 @@ add-out c =
     let g = l .loop .inv .leads _ _ _ _ _ (l .before .before .packets .inv) in
     let k = c .before .before .before .before .before .before .before .before .before .before .before .before .before .before .before .before .before .before .carry .ensures in
     let end = c .before .before .before .before .before .before .before .before .before .before .before .before .before .before .before .if1 .left in
-    let full : messageSize ≤ length (l .loop .message) = rw (message-same (g .goes)) (s .pre .2) in
+    let full = still-full g (s .pre .2) in
     let at = l .loop .at + c .before .before .before .before .before .before .before .before .before .before .before .before .before .before .before .before .before .before .carry .result in
     let small : getD (s .args .bytes .now) at 0 < 256 = omega (arith, c .before .before .before .before .before .before .before .before .before .before .before .before .before .before .shared-slice-known2 .given at) in
-    let first = going-long g (s .pre .0) in
-    let same = c .before .before .before .before .before .before .before .before .before .before .before .before .before .before .before .before .before .before .carry .kept .0 in
-    let h = takes-event (c .before .before .before .before .before .before .before .mk-hub-hear .ensures) (omega (arith, first, same, s .pre .0)) (part-long g) full small in
+    let h = event g k (still-long g (s .pre .0)) full small (c .before .before .before .before .before .before .before .mk-hub-hear .ensures) in
     let f = out-fits g k end full small h in
     let e = room-length (g .goes) in
     omega (arith, f, e, s .good .1 .1 .1 .0 .0)
@@ -140,12 +136,10 @@ sub-leaving c =
     let g = l .loop .inv .leads _ _ _ _ _ (l .before .before .packets .inv) in
     let k = c .before .before .before .before .before .before .before .before .before .before .before .before .before .before .before .before .before .before .carry .ensures in
     let end = c .before .before .before .before .before .before .before .before .before .before .before .before .before .before .before .if1 .left in
-    let full : messageSize ≤ length (l .loop .message) = rw (message-same (g .goes)) (s .pre .2) in
+    let full = still-full g (s .pre .2) in
     let at = l .loop .at + c .before .before .before .before .before .before .before .before .before .before .before .before .before .before .before .before .before .before .carry .result in
     let small : getD (s .args .bytes .now) at 0 < 256 = omega (arith, c .before .before .before .before .before .before .before .before .before .before .before .before .before .before .shared-slice-known2 .given at) in
-    let first = going-long g (s .pre .0) in
-    let same = c .before .before .before .before .before .before .before .before .before .before .before .before .before .before .before .before .before .before .carry .kept .0 in
-    let h = takes-event (c .before .before .before .before .before .before .before .mk-hub-hear .ensures) (omega (arith, first, same, s .pre .0)) (part-long g) full small in
+    let h = event g k (still-long g (s .pre .0)) full small (c .before .before .before .before .before .before .before .mk-hub-hear .ensures) in
     let f = out-fits g k end full small h in
     let e = out-length g k end full small h in
     omega (arith, f, e)
@@ -172,12 +166,10 @@ packets-again c =
     let g = l .loop .inv .leads _ _ _ _ _ (l .before .before .packets .inv) in
     let k = c .before .before .before .before .before .before .before .before .before .before .before .before .before .before .before .before .before .before .before .before .before .carry .ensures in
     let end = c .before .before .before .before .before .before .before .before .before .before .before .before .before .before .before .before .before .before .if1 .left in
-    let full : messageSize ≤ length (l .loop .message) = rw (message-same (g .goes)) (s .pre .2) in
+    let full = still-full g (s .pre .2) in
     let at = l .loop .at + c .before .before .before .before .before .before .before .before .before .before .before .before .before .before .before .before .before .before .before .before .before .carry .result in
     let small : getD (s .args .bytes .now) at 0 < 256 = omega (arith, c .before .before .before .before .before .before .before .before .before .before .before .before .before .before .before .before .before .shared-slice-known2 .given at) in
-    let first = going-long g (s .pre .0) in
-    let same = c .before .before .before .before .before .before .before .before .before .before .before .before .before .before .before .before .before .before .before .before .before .carry .kept .0 in
-    let h = takes-event (c .before .before .before .before .before .before .before .before .before .before .mk-hub-hear .ensures) (omega (arith, first, same, s .pre .0)) (part-long g) full small in
+    let h = event g k (still-long g (s .pre .0)) full small (c .before .before .before .before .before .before .before .before .before .before .mk-hub-hear .ensures) in
     going-again (turned g k end full small h (c .before .before .before .named .ensures) refl (c .before .before .leaving .ensures)) (λ z. omega arith) (c .before .if2 .left)
 
 loop-less : tie.Need-loop-less Inv-loop μ-loop Inv-packets μ-packets
@@ -195,12 +187,10 @@ loop-again c =
     let g = l .loop .inv .leads _ _ _ _ _ (l .before .before .packets .inv) in
     let k = c .before .before .before .before .before .before .before .before .before .before .before .before .before .before .before .before .before .before .before .before .before .carry .ensures in
     let end = c .before .before .before .before .before .before .before .before .before .before .before .before .before .before .before .before .before .before .if1 .left in
-    let full : messageSize ≤ length (l .loop .message) = rw (message-same (g .goes)) (s .pre .2) in
+    let full = still-full g (s .pre .2) in
     let at = l .loop .at + c .before .before .before .before .before .before .before .before .before .before .before .before .before .before .before .before .before .before .before .before .before .carry .result in
     let small : getD (s .args .bytes .now) at 0 < 256 = omega (arith, c .before .before .before .before .before .before .before .before .before .before .before .before .before .before .before .before .before .shared-slice-known2 .given at) in
-    let first = going-long g (s .pre .0) in
-    let same = c .before .before .before .before .before .before .before .before .before .before .before .before .before .before .before .before .before .before .before .before .before .carry .kept .0 in
-    let h = takes-event (c .before .before .before .before .before .before .before .before .before .before .mk-hub-hear .ensures) (omega (arith, first, same, s .pre .0)) (part-long g) full small in
+    let h = event g k (still-long g (s .pre .0)) full small (c .before .before .before .before .before .before .before .before .before .before .mk-hub-hear .ensures) in
     let m = l .loop .inv .least in
     record {
       least = omega (arith, m);
@@ -263,12 +253,10 @@ same-length-8 c =
     let g = l .loop .inv .leads _ _ _ _ _ (l .before .before .packets .inv) in
     let k = c .before .before .before .before .before .before .before .before .before .before .before .before .before .before .before .before .before .before .before .before .carry .ensures in
     let end = c .before .before .before .before .before .before .before .before .before .before .before .before .before .before .before .before .before .if1 .left in
-    let full : messageSize ≤ length (l .loop .message) = rw (message-same (g .goes)) (s .pre .2) in
+    let full = still-full g (s .pre .2) in
     let at = l .loop .at + c .before .before .before .before .before .before .before .before .before .before .before .before .before .before .before .before .before .before .before .before .carry .result in
     let small : getD (s .args .bytes .now) at 0 < 256 = omega (arith, c .before .before .before .before .before .before .before .before .before .before .before .before .before .before .before .before .shared-slice-known2 .given at) in
-    let first = going-long g (s .pre .0) in
-    let same = c .before .before .before .before .before .before .before .before .before .before .before .before .before .before .before .before .before .before .before .before .carry .kept .0 in
-    let h = takes-event (c .before .before .before .before .before .before .before .before .before .mk-hub-hear .ensures) (omega (arith, first, same, s .pre .0)) (part-long g) full small in
+    let h = event g k (still-long g (s .pre .0)) full small (c .before .before .before .before .before .before .before .before .before .mk-hub-hear .ensures) in
     out-length g k end full small h ∙ room-length (g .goes)
 
 same-length-9 : tie.Need-same-length-9 Inv-loop μ-loop Inv-packets μ-packets
@@ -285,12 +273,10 @@ returns-3 c =
     let g = l .loop .inv .leads _ _ _ _ _ (l .before .before .packets .inv) in
     let k = c .before .before .before .before .before .before .before .before .before .before .before .before .before .before .before .before .before .before .before .before .carry .ensures in
     let end = c .before .before .before .before .before .before .before .before .before .before .before .before .before .before .before .before .before .if1 .left in
-    let full : messageSize ≤ length (l .loop .message) = rw (message-same (g .goes)) (s .pre .2) in
+    let full = still-full g (s .pre .2) in
     let at = l .loop .at + c .before .before .before .before .before .before .before .before .before .before .before .before .before .before .before .before .before .before .before .before .carry .result in
     let small : getD (s .args .bytes .now) at 0 < 256 = omega (arith, c .before .before .before .before .before .before .before .before .before .before .before .before .before .before .before .before .shared-slice-known2 .given at) in
-    let first = going-long g (s .pre .0) in
-    let same = c .before .before .before .before .before .before .before .before .before .before .before .before .before .before .before .before .before .before .before .before .carry .kept .0 in
-    let h = takes-event (c .before .before .before .before .before .before .before .before .before .mk-hub-hear .ensures) (omega (arith, first, same, s .pre .0)) (part-long g) full small in
+    let h = event g k (still-long g (s .pre .0)) full small (c .before .before .before .before .before .before .before .before .before .mk-hub-hear .ensures) in
     record { takes = takes-turn (s .pre .1) (s .pre .2) (s .pre .3) (turned g k end full small h (c .before .before .named .ensures) refl (c .before .leaving .ensures)) (λ z. omega arith) (c .if2 .taken) }
 
 pub read-spec : {M : Type 1} → statement M
