@@ -93,7 +93,7 @@ static void set_up(size_t which)
     show(which, "set up by its host, kept in flash");
 }
 
-// Locks come only from a set: they are written behind its values, and the reader that they are for reads it again.
+// Locks come from a set here: they are written behind its values, and the reader that they are for reads it again.
 static void lock(size_t which)
 {
     static const uint8_t locked[] = {MK_PARAMETER_TRIGGER, MK_PARAMETER_BAUD}; // rising

@@ -255,6 +255,7 @@ static struct {
     uint8_t *framer, *hub, *sender, *reader; // control values
     uint8_t *packet, *line, *gather, *message, *answer, *hub_answer, *answers, *reader_answer, *set, *bytes;
     size_t *values;
+    mk_table *table;
 } room;
 static mk_framer *framer;
 static mk_hub *hub;
@@ -279,6 +280,7 @@ static inline void lay_ground(void)
     room.set = lend(MK_SET_SIZE);
     room.bytes = lend(sizeof message);
     room.values = lend(MK_READER_VALUES * sizeof *room.values);
+    room.table = lend(sizeof *room.table);
     framer = lend(sizeof *framer);
     hub = lend(sizeof *hub);
     sender = lend(sizeof *sender);

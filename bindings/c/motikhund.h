@@ -39,7 +39,7 @@
 // - The interrupt puts what came into a queue, in order, and the main loop gives it to the machine. The plain way.
 // - The interrupt makes every call of this machine itself and hands on what was told, with a copy of the bytes that it
 //   names: the next event may write over them. Then the main loop calls nothing of this machine, or does so with that
-//   interrupt masked: mk_reader_send, mk_reader_expire, mk_reader_parameter and mk_reader_save too.
+//   interrupt masked: mk_reader_send, mk_reader_expire, mk_reader_parameter, mk_reader_save and mk_reader_table too.
 //
 // mk_go_on in the interrupt and the other calls in the main loop is wrong on one machine: the interrupt may come while
 // the main loop is inside a call, and an event that mk_go_on left must be taken before any later one. It becomes right
@@ -94,8 +94,8 @@
 // with each change of what stands where in a control value, the patch with every other landing. So whoever stores a
 // control value stores MK_VERSION_NUMBER with it, and puts it back only where MK_VERSION_NUMBER / 100 is the same;
 // else it is initialised anew.
-#define MK_VERSION "0.4.1"
-#define MK_VERSION_NUMBER 401
+#define MK_VERSION "0.4.2"
+#define MK_VERSION_NUMBER 402
 
 #ifdef __cplusplus
 #define MK_ASSERT(truth, why) static_assert(truth, why)
@@ -153,7 +153,7 @@ enum {
     MK_SOURCE = 4,    // a source that is wrong for this side; NAK 2
     MK_STATUS = 5,    // a status bit that is not allowed; NAK 2
     MK_OPCODE = 6,    // an opcode unknown to this side; NAK 2
-    MK_DATA = 7,      // a data length wrong for the opcode; NAK 2
+    MK_DATA = 7,      // a data length wrong for the opcode; NAK 2. A list for a table that ends inside a pair
     MK_BEEP = 8,      // a beep code that is not allowed; NAK 6
     MK_SETTING = 9,   // a parameter or value that is not allowed, or a parameter that is locked; NAK 6
     MK_BARRED = 10,   // hub: another type inside a message, or too long; then all decode data to a message gap; NAK 6
@@ -278,6 +278,20 @@ enum {
     MK_DATA_PACKETED = 1
 };
 
+// Where each parameter stands in a table (mk_table), and how many there are: in the order of their numbers.
+enum {
+    MK_PLACE_POWER_MODE = 0,        // 80h
+    MK_PLACE_SAME_SYMBOL_TIME = 1,  // 89h
+    MK_PLACE_TRIGGER = 2,           // 8Ah
+    MK_PLACE_RESPONSE_TIME_OUT = 3, // 9Bh
+    MK_PLACE_BAUD = 4,              // 9Ch
+    MK_PLACE_PARITY = 5,            // 9Eh
+    MK_PLACE_ACK_NAK = 6,           // 9Fh
+    MK_PLACE_AIM_DURATION = 7,      // EDh
+    MK_PLACE_PACKETED_DATA = 8,     // EEh
+    MK_PLACES = 9
+};
+
 // A beep's duration and pitch (docs/PROTOCOL.md §13).
 enum {
     MK_DURATION_SHORT = 0,
@@ -354,6 +368,25 @@ enum {
     MK_SWITCH_VALUES = 4
 };
 
+// ---- the parameter table
+//
+// A board may keep a table of parameters itself and have it altered where it stands (mk_table_set, mk_table_set_defaults,
+// mk_table_power_up), or take it out of a reader and put it back (mk_reader_table, mk_reader_put_table). Each parameter
+// has its place in all three rows, MK_PLACE_.., and two values: the present one holds now, the permanent one is the
+// present one again after power-up.
+//
+// A lock is a byte: 1 where the parameter is locked, any other byte where it is not. So any 27 bytes are some table,
+// also where values stand in it that no parameter takes. Locks are yours to write; the three calls above that alter a
+// table write values alone and leave each lock's byte as it is, whatever it is.
+//
+// Zeros given to mk_table_set_defaults are the house defaults with nothing locked (mk_table_init does both).
+typedef struct {
+    uint8_t present[MK_PLACES];
+    uint8_t permanent[MK_PLACES];
+    uint8_t locked[MK_PLACES];
+} mk_table;
+MK_ASSERT(sizeof(mk_table) == 27 && MK_ALIGNMENT(mk_table) == 1, "mk_table");
+
 // ---- the calls of the archive
 //
 // A control value is all that a machine remembers beside its buffers. It stands in bytes of yours, and any bytes are
@@ -371,6 +404,8 @@ enum {
 // that came in the line, and the control value are written: the packet begun has ended, MK_LENGTH and MK_CHECKSUM make
 // deaf, MK_BARRED bars the hub with nothing gathered, and all else in it stays as it was read (so a flag's byte that
 // was neither 0 nor 1 is written as 0).
+//
+// What mk_table_set and mk_reader_put_table refuse changes nothing at all, whichever refusal it is.
 //
 // An event above MK_MESSAGE_GAP changes nothing at all and tells MK_NOTHING, with values of 0. So does a reply above
 // MK_REPLY_ACK. MK_ROOM is tested before, as at every call.
@@ -498,8 +533,9 @@ uint32_t mk_reader_save(const uint8_t *control, size_t control_len, uint8_t *roo
 // out on the line. Or, in this order, MK_FORM; MK_ROOM.
 uint32_t mk_reader_load(uint8_t *control, size_t control_len, const uint8_t *form, size_t form_len);
 
-// Whether a parameter is locked, 1 or 0; 0 where there is no such parameter. Only a set locks and unlocks. A PARAM_SEND
-// that names a locked one is MK_SETTING, and PARAM_DEFAULTS leaves it both its values. MK_NOTHING, or MK_ROOM.
+// Whether a parameter is locked, 1 or 0; 0 where there is no such parameter. Only a set or a table that is put into the
+// reader locks and unlocks. A PARAM_SEND that names a locked one is MK_SETTING, and PARAM_DEFAULTS leaves it both its
+// values. MK_NOTHING, or MK_ROOM.
 uint32_t mk_reader_locked(const uint8_t *control, size_t control_len, uint8_t number, size_t *value);
 
 // The present value of a parameter, 0 where there is no such parameter. MK_NOTHING, or MK_ROOM.
@@ -507,6 +543,35 @@ uint32_t mk_reader_value(const uint8_t *control, size_t control_len, uint8_t num
 
 // What the commands have switched on; the values are MK_SWITCH_... MK_NOTHING, or MK_ROOM.
 uint32_t mk_reader_switches(const uint8_t *control, size_t control_len, size_t values[MK_SWITCH_VALUES]);
+
+// Takes a reader's table out: present values, permanent values and locks, each lock as 1 or 0. The reader keeps its
+// own. MK_NOTHING; or MK_ROOM, and the table is left as it was.
+uint32_t mk_reader_table(const uint8_t *control, size_t control_len, mk_table *table);
+
+// Puts a table into a reader. MK_NOTHING: its values, present and permanent, and its locks are the reader's, and they
+// hold at once. The last accepted packet is forgotten, as by mk_reader_load: a resent equal of it is performed anew and
+// not answered from memory, because that answer would claim a change that the table put back may have undone. All else
+// stays: a packet begun, a message out, what a start tells of a gap, what is switched on. Nothing goes out on the line.
+// Or, in this order, MK_ROOM; MK_SETTING where a value, present or permanent, is not one that its parameter takes. Then
+// every control byte stays.
+//
+// Give the reader no event between taking out and putting back: what a host set in between would be lost. Then it is
+// time for mk_reader_save where a permanent value or a lock changed, and to set the port anew where 9Ch or 9Eh did.
+uint32_t mk_reader_put_table(uint8_t *control, size_t control_len, const mk_table *table);
+
+// Sets a list of pairs, number and value, where the table stands: all or nothing, as a PARAM_SEND with these pairs does
+// at a reader. Without permanent the present values change, with it both; parameters that are not named keep both
+// theirs. Of a number named twice the later value holds. Any number of pairs is taken; none is taken too, and changes
+// nothing. MK_NOTHING; or, in this order, MK_DATA for an odd number of bytes, so a number with nothing behind it;
+// MK_SETTING for a number that is not supported, a value that is not allowed or a parameter that is locked, also where
+// it has that value already. On both not a byte of the table changes.
+uint32_t mk_table_set(mk_table *table, const uint8_t *pairs, size_t pairs_len, bool permanent);
+
+// Every parameter that is not locked gets its house default, present and permanent, as PARAM_DEFAULTS does it.
+void mk_table_set_defaults(mk_table *table);
+
+// The permanent values become the present ones, those of locked parameters too, as at a reader's power-up.
+void mk_table_power_up(mk_table *table);
 
 // ---- machines with their buffers
 //
@@ -678,8 +743,8 @@ static inline bool mk_sender_out(const mk_sender *sender)
     return mk_sender_waits(sender->control, sizeof sender->control) == MK_OUT;
 }
 
-// The reader's whole end: framer, commands with the parameters, sender. 5,018 bytes. mk_reader_save, mk_reader_load and
-// mk_reader_locked take its control value as it stands here.
+// The reader's whole end: framer, commands with the parameters, sender. 5,018 bytes. mk_reader_save, mk_reader_load,
+// mk_reader_locked, mk_reader_table and mk_reader_put_table take its control value as it stands here.
 typedef struct {
     uint8_t control[MK_READER_CONTROL_SIZE];
     uint8_t line[MK_LINE_SIZE];
@@ -789,6 +854,21 @@ static inline mk_switches mk_reader_switched(const mk_reader *reader)
     on.aim = values[MK_SWITCH_AIM] == 1;
     on.led = values[MK_SWITCH_LED] == 1;
     return on;
+}
+
+// The house defaults, present and permanent, nothing locked. A table is altered by mk_table_set, mk_table_set_defaults and
+// mk_table_power_up as it stands:
+//
+//     static const uint8_t pairs[] = {MK_PARAMETER_BAUD, MK_BAUD_19200, MK_PARAMETER_PARITY, MK_PARITY_EVEN};
+//     mk_table_init(&table);
+//     if (mk_table_set(&table, pairs, sizeof pairs, true) == MK_NOTHING)
+//         set_port(table.present[MK_PLACE_BAUD], table.present[MK_PLACE_PARITY]);
+//     table.locked[MK_PLACE_BAUD] = 1; // from here on no list and no defaults change it
+static inline void mk_table_init(mk_table *table)
+{
+    const mk_table zeros = {{0}, {0}, {0}};
+    *table = zeros;
+    mk_table_set_defaults(table);
 }
 
 #ifdef __cplusplus

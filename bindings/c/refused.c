@@ -1,7 +1,8 @@
 // Tests of all that is refused, through motikhund.h: which refusal, its answer, and every lent byte afterwards.
-// On 11 to 15 no lent byte changes but the values told, which are 0 (12 is in sets.c, 15 in blocks.c). On 1 to 10 these
-// change and no other: the values, the answer at the front of its room, the byte that came in its place in the line,
-// and the control value as the rules have it (docs/PROTOCOL.md §6).
+// On 11 to 15 no lent byte changes but the values told, which are 0 (12 is in sets.c, 15 in blocks.c), nor does one on 7
+// and 9 of a table (tables.c). On 1 to 10 of an event these change and no other: the values, the answer at the front of
+// its room, the byte that came in its place in the line, and the control value as the rules have it (docs/PROTOCOL.md
+// §6).
 #include "ground.h"
 
 // ---- the ground before a call: garbage of several kinds everywhere
@@ -142,6 +143,17 @@ static uint32_t reader_switches_in(const size_t *size)
     return mk_reader_switches(room.reader, size[0], room.values);
 }
 
+static uint32_t reader_table_in(const size_t *size)
+{
+    return mk_reader_table(room.reader, size[0], room.table);
+}
+
+// Most of what stands in the table is not allowed: the control value's size is looked at before.
+static uint32_t reader_put_table_in(const size_t *size)
+{
+    return mk_reader_put_table(room.reader, size[0], room.table);
+}
+
 // A call, the sizes that it asks for, and how many numbers it tells.
 typedef struct {
     const char *name;
@@ -174,6 +186,8 @@ static const asking askings[] = {
     {"mk_reader_locked", reader_locked_in, {MK_READER_CONTROL_SIZE, 0, 0}, 1},
     {"mk_reader_value", reader_value_in, {MK_READER_CONTROL_SIZE, 0, 0}, 1},
     {"mk_reader_switches", reader_switches_in, {MK_READER_CONTROL_SIZE, 0, 0}, MK_SWITCH_VALUES},
+    {"mk_reader_table", reader_table_in, {MK_READER_CONTROL_SIZE, 0, 0}, 0},
+    {"mk_reader_put_table", reader_put_table_in, {MK_READER_CONTROL_SIZE, 0, 0}, 0},
 };
 
 static void room_refused(const asking *asked, size_t which, size_t size)

@@ -292,7 +292,7 @@ static void test_locks_outlast_power_up(void)
     CHECK(has_locked(reader->control, MK_PARAMETER_TRIGGER) && has_locked(reader->control, MK_PARAMETER_BAUD));
     CHECK(!has_locked(reader->control, MK_PARAMETER_PARITY));
     CHECK(set(0, MK_PARAMETER_BAUD, MK_BAUD_4800) == MK_SETTING);
-    lock(""); // only a set unlocks
+    lock(""); // a set unlocks, and no command
     CHECK(set(0, MK_PARAMETER_BAUD, MK_BAUD_4800) == MK_ACTED);
 }
 

@@ -303,7 +303,22 @@ static void garbage_set(sights *sets)
     see(sets, loaded);
 }
 
-static void garbage_reader(sights *told, sights *sent, sights *sets, chatter *talk)
+// The table taken out, and put back as it is or with a byte changed. What it must be is in tables.c.
+static void garbage_table(sights *tables)
+{
+    mk_table table;
+    uint32_t taken = mk_reader_table(room.reader, MK_READER_CONTROL_SIZE, room.table);
+    CHECK(mk_reader_table(reader->control, sizeof reader->control, &table) == taken);
+    CHECK(memcmp(room.table, &table, sizeof table) == 0);
+    if (below(4) == 0)
+        ((uint8_t *)&table)[below(sizeof table)] ^= (uint8_t)(1 << below(8));
+    uint32_t put = mk_reader_put_table(room.reader, MK_READER_CONTROL_SIZE, &table);
+    CHECK(mk_reader_put_table(reader->control, sizeof reader->control, &table) == put);
+    see(tables, taken);
+    see(tables, put);
+}
+
+static void garbage_reader(sights *told, sights *sent, sights *sets, sights *tables, chatter *talk)
 {
     size_t chance = below(32), count = any_count();
     uint8_t code = any_code(), number = pick(parameters, COUNT(parameters));
@@ -324,6 +339,8 @@ static void garbage_reader(sights *told, sights *sent, sights *sets, chatter *ta
         mk_reader_restart(reader);
     } else if (chance == 3) {
         garbage_set(sets);
+    } else if (chance == 4) {
+        garbage_table(tables);
     } else {
         garbage_reader_event(told, next_event(talk));
     }
@@ -338,7 +355,7 @@ static void garbage_reader(sights *told, sights *sent, sights *sets, chatter *ta
 
 static void test_garbage_reader(void)
 {
-    sights told = {{0}}, sent = {{0}}, sets = {{0}};
+    sights told = {{0}}, sent = {{0}}, sets = {{0}}, tables = {{0}};
     twin twins[] = {
         {room.reader, reader->control, sizeof reader->control, reader_flags},
         {room.line, reader->line, sizeof reader->line, NULL},
@@ -352,7 +369,7 @@ static void test_garbage_reader(void)
         any_start(room.reader, MK_READER_CONTROL_SIZE, mk_reader_on);
         make_twins(twins, COUNT(twins));
         for (int j = 0; j < ROUND_EVENTS; j++) {
-            garbage_reader(&told, &sent, &sets, &talk);
+            garbage_reader(&told, &sent, &sets, &tables, &talk);
             CHECK(are_twins(twins, COUNT(twins)));
         }
     }
@@ -360,6 +377,7 @@ static void test_garbage_reader(void)
         MK_BEEP, MK_SETTING, MK_REPEATED, MK_ACTED, MK_COPY, MK_DELIVERED, MK_FAILED}, 15);
     saw(&sent, (const uint8_t[]){MK_NOTHING, MK_START, MK_COPY, MK_FAILED, GAP_DUE}, 5);
     saw(&sets, (const uint8_t[]){MK_NOTHING, MK_FORM, MK_WRITTEN}, 3);
+    saw(&tables, (const uint8_t[]){MK_NOTHING, MK_SETTING}, 2);
 }
 
 // Each init makes the control value that its call makes, and touches nothing else.

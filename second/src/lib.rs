@@ -6,6 +6,7 @@ mod dice;
 pub mod form;
 pub mod framer;
 pub mod hub;
+pub mod kept;
 pub mod line;
 pub mod listing;
 pub mod packet;

@@ -4,7 +4,7 @@ use crate::form;
 use crate::framer::{Framed, Framer, LineEvent};
 use crate::packet::*;
 use crate::sender::{End, First, Sender, Sent};
-use crate::table::{allowed, beep, Beep, Table, NO_BEEP, ROWS};
+use crate::table::{beep, Beep, Table, NO_BEEP, ROWS};
 
 /// In a PARAM_REQUEST: all parameters.
 pub const ALL: u8 = 0xFE;
@@ -169,7 +169,7 @@ impl Reader {
         let data = packet.data();
         match packet.opcode() {
             PARAM_SEND => {
-                self.set_parameters(data, packet.status() & PERMANENT != 0);
+                self.table.put(&data[1..], packet.status() & PERMANENT != 0);
                 return beep(data[0]);
             }
             BEEP => return beep(data[0]),
@@ -188,12 +188,6 @@ impl Reader {
             _ => {} // PARAM_REQUEST changes nothing.
         }
         None
-    }
-
-    fn set_parameters(&mut self, data: &[u8], permanently: bool) {
-        for pair in data[1..].chunks_exact(2) {
-            self.table.set(pair[0], pair[1], permanently);
-        }
     }
 
     /// The PARAM_SEND that answers a request.
@@ -259,12 +253,7 @@ fn judge_parameters(data: &[u8], table: &Table) -> Result<(), Refusal> {
     if data[0] != NO_BEEP && beep(data[0]).is_none() {
         return Err(Refusal::Beep);
     }
-    // A lock keeps even the value that there is from being sent.
-    if data[1..].chunks_exact(2).all(|pair| allowed(pair[0], pair[1]) && !table.locked(pair[0])) {
-        Ok(())
-    } else {
-        Err(Refusal::Parameter)
-    }
+    table.judge(&data[1..])
 }
 
 fn known(opcode: u8) -> bool {

@@ -1,5 +1,7 @@
 //! The parameter table (docs/PROTOCOL.md, §12) and the beep codes (§13).
 
+use crate::packet::Refusal;
+
 /// Parameter, lowest, highest, house default.
 pub const ROWS: [[u8; 4]; 9] = [
     [0x80, 0, 1, 0],   // power mode
@@ -53,12 +55,26 @@ impl Table {
         }
     }
 
-    /// The pair has been judged before.
-    pub fn set(&mut self, number: u8, value: u8, permanently: bool) {
-        let place = place(number).expect("a judged number");
-        self.present[place] = value;
-        if permanently {
-            self.permanent[place] = value;
+    /// Whether a list of pairs, number and value, may be set. A lock keeps even the value that there is from being sent.
+    pub fn judge(&self, pairs: &[u8]) -> Result<(), Refusal> {
+        if pairs.len() % 2 != 0 {
+            return Err(Refusal::DataLength);
+        }
+        if pairs.chunks_exact(2).all(|pair| allowed(pair[0], pair[1]) && !self.locked(pair[0])) {
+            Ok(())
+        } else {
+            Err(Refusal::Parameter)
+        }
+    }
+
+    /// Sets a list that has been judged.
+    pub fn put(&mut self, pairs: &[u8], permanently: bool) {
+        for pair in pairs.chunks_exact(2) {
+            let place = place(pair[0]).expect("a judged number");
+            self.present[place] = pair[1];
+            if permanently {
+                self.permanent[place] = pair[1];
+            }
         }
     }
 

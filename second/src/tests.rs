@@ -1,6 +1,7 @@
 //! The packets of docs/PROTOCOL.md (§2, §17), of the published guides, and the readings of the open points.
 
 mod blocks;
+mod kept;
 
 use crate::form::{self, Fault};
 use crate::framer::{Framed, Framer, LineEvent};

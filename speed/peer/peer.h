@@ -162,6 +162,26 @@ void peer_sender_init(peer_sender *sender);
 peer_sent peer_sender_send(peer_sender *sender, uint8_t code, const uint8_t *bytes, size_t count);
 peer_sent peer_sender_heard(peer_sender *sender, uint32_t heard);
 
+// ---- the parameter table (§12)
+
+// The reader has one, and a board may keep one itself (5/14), which these calls alter where it stands. Any bytes are a
+// table; the order is that of the parameters' numbers.
+typedef struct {
+    uint8_t present[PEER_PARAMETERS];
+    uint8_t permanent[PEER_PARAMETERS];
+    uint8_t locked[PEER_PARAMETERS]; // 1 where the parameter is locked, and no other byte is a lock
+} peer_table;
+
+// A list of pairs, number and value, all or nothing: PEER_NOTHING; PEER_DATA where it ends with a number; PEER_SETTING
+// for a pair that is not allowed or names a locked parameter.
+uint32_t peer_table_set(peer_table *table, const uint8_t *pairs, size_t count, bool permanently);
+
+// The house defaults, for all that are not locked.
+void peer_table_defaults(peer_table *table);
+
+// The permanent values become the present ones.
+void peer_table_power_up(peer_table *table);
+
 // ---- the reader's whole end (§11 to §13)
 
 typedef struct {
@@ -173,9 +193,7 @@ typedef struct {
 
 typedef struct {
     peer_framer framer;
-    uint8_t present[PEER_PARAMETERS];
-    uint8_t permanent[PEER_PARAMETERS];
-    bool locks[PEER_PARAMETERS];
+    peer_table table;
     peer_switches switches;
     uint8_t kept_size; // of the answer to the last accepted packet
     uint8_t kept[PEER_READER_ANSWER_SIZE];
@@ -207,6 +225,6 @@ peer_built peer_reader_save(const peer_reader *reader, uint8_t *room, size_t roo
 uint32_t peer_reader_load(peer_reader *reader, const uint8_t *form, size_t count);
 
 // Of the structs, for those who declare them in another language.
-extern const size_t peer_hub_size, peer_sender_size, peer_reader_size;
+extern const size_t peer_hub_size, peer_sender_size, peer_table_size, peer_reader_size;
 
 #endif

@@ -62,50 +62,30 @@ static const uint8_t beeps[HIGHEST_BEEP + 1][3] = {
     {0, 8, 13}, {8, 0, 1}, {9, 9, 1}
 };
 
+const size_t peer_table_size = sizeof(peer_table);
 const size_t peer_reader_size = sizeof(peer_reader);
 
-// For all that are not locked.
-static void house_defaults(peer_reader *reader)
+// ---- the parameter table
+
+static bool locked(const peer_table *table, size_t place)
+{
+    return table->locked[place] == 1;
+}
+
+void peer_table_defaults(peer_table *table)
 {
     for (size_t i = 0; i < PEER_PARAMETERS; i++) {
-        if (!reader->locks[i]) {
-            reader->present[i] = rows[i].house;
-            reader->permanent[i] = rows[i].house;
+        if (!locked(table, i)) {
+            table->present[i] = rows[i].house;
+            table->permanent[i] = rows[i].house;
         }
     }
 }
 
-void peer_reader_restart(peer_reader *reader)
+void peer_table_power_up(peer_table *table)
 {
-    framer_init(&reader->framer);
-    peer_sender_init(&reader->sender);
-    memcpy(reader->present, reader->permanent, sizeof reader->present);
-    reader->switches = (peer_switches){.scanning = true};
-    reader->kept_size = 0;
+    memcpy(table->present, table->permanent, sizeof table->present);
 }
-
-void peer_reader_init(peer_reader *reader)
-{
-    memset(reader->locks, 0, sizeof reader->locks);
-    house_defaults(reader);
-    peer_reader_restart(reader);
-}
-
-static bool handshaking(const peer_reader *reader)
-{
-    return reader->present[ACK_NAK - 1] == 1;
-}
-
-static peer_reader_told refuse(peer_reader *reader, uint8_t refusal)
-{
-    peer_reader_told told = {.number = refusal};
-    if (handshaking(reader)) {
-        told.answer = put_nak(reader->answer, READER, cause_of(refusal));
-    }
-    return told;
-}
-
-// ---- the parameters
 
 static bool setting_allowed(uint8_t number, uint8_t value)
 {
@@ -117,50 +97,101 @@ static bool setting_allowed(uint8_t number, uint8_t value)
 }
 
 // A locked parameter is not to be named, whatever the value.
-static bool settings_allowed(const peer_reader *reader, const uint8_t *pairs, size_t count)
+static bool settings_allowed(const peer_table *table, const uint8_t *pairs, size_t count)
 {
     for (size_t i = 0; i < count; i += 2) {
-        if (!setting_allowed(pairs[i], pairs[i + 1]) || reader->locks[row_of[pairs[i]] - 1]) {
+        if (!setting_allowed(pairs[i], pairs[i + 1]) || locked(table, row_of[pairs[i]] - 1)) {
             return false;
         }
     }
     return true;
 }
 
-// Whether a permanent value is another one afterwards: a number named twice may end as it was.
-static bool set(peer_reader *reader, const uint8_t *pairs, size_t count, bool permanently)
+static void put_settings(peer_table *table, const uint8_t *pairs, size_t count, bool permanently)
 {
-    uint8_t before[PEER_PARAMETERS];
-    memcpy(before, reader->permanent, sizeof before);
     for (size_t i = 0; i < count; i += 2) {
         uint8_t row = row_of[pairs[i]];
-        reader->present[row - 1] = pairs[i + 1];
+        table->present[row - 1] = pairs[i + 1];
         if (permanently) {
-            reader->permanent[row - 1] = pairs[i + 1];
+            table->permanent[row - 1] = pairs[i + 1];
         }
     }
-    return memcmp(before, reader->permanent, sizeof before) != 0;
 }
 
-static bool set_back(peer_reader *reader)
+uint32_t peer_table_set(peer_table *table, const uint8_t *pairs, size_t count, bool permanently)
+{
+    if (count % 2 != 0) {
+        return PEER_DATA;
+    }
+    if (!settings_allowed(table, pairs, count)) {
+        return PEER_SETTING;
+    }
+    put_settings(table, pairs, count, permanently);
+    return PEER_NOTHING;
+}
+
+// ---- power-up
+
+void peer_reader_restart(peer_reader *reader)
+{
+    framer_init(&reader->framer);
+    peer_sender_init(&reader->sender);
+    peer_table_power_up(&reader->table);
+    reader->switches = (peer_switches){.scanning = true};
+    reader->kept_size = 0;
+}
+
+void peer_reader_init(peer_reader *reader)
+{
+    memset(reader->table.locked, 0, sizeof reader->table.locked);
+    peer_table_defaults(&reader->table);
+    peer_reader_restart(reader);
+}
+
+static bool handshaking(const peer_reader *reader)
+{
+    return reader->table.present[ACK_NAK - 1] == 1;
+}
+
+static peer_reader_told refuse(peer_reader *reader, uint8_t refusal)
+{
+    peer_reader_told told = {.number = refusal};
+    if (handshaking(reader)) {
+        told.answer = put_nak(reader->answer, READER, cause_of(refusal));
+    }
+    return told;
+}
+
+// ---- the parameters in a command
+
+// Whether a permanent value is another one afterwards: a number named twice may end as it was.
+static bool set(peer_table *table, const uint8_t *pairs, size_t count, bool permanently)
 {
     uint8_t before[PEER_PARAMETERS];
-    memcpy(before, reader->permanent, sizeof before);
-    house_defaults(reader);
-    return memcmp(before, reader->permanent, sizeof before) != 0;
+    memcpy(before, table->permanent, sizeof before);
+    put_settings(table, pairs, count, permanently);
+    return memcmp(before, table->permanent, sizeof before) != 0;
 }
 
-static size_t put_all(const peer_reader *reader, uint8_t *pairs)
+static bool set_back(peer_table *table)
+{
+    uint8_t before[PEER_PARAMETERS];
+    memcpy(before, table->permanent, sizeof before);
+    peer_table_defaults(table);
+    return memcmp(before, table->permanent, sizeof before) != 0;
+}
+
+static size_t put_all(const peer_table *table, uint8_t *pairs)
 {
     for (size_t i = 0; i < PEER_PARAMETERS; i++) {
         pairs[2 * i] = rows[i].number;
-        pairs[2 * i + 1] = reader->present[i];
+        pairs[2 * i + 1] = table->present[i];
     }
     return 2 * PEER_PARAMETERS;
 }
 
 // Each once, in the order of first asking.
-static size_t put_asked(const peer_reader *reader, uint8_t *pairs, const uint8_t *numbers, size_t count)
+static size_t put_asked(const peer_table *table, uint8_t *pairs, const uint8_t *numbers, size_t count)
 {
     uint32_t done = 1u << NO_ROW;
     size_t size = 0;
@@ -169,7 +200,7 @@ static size_t put_asked(const peer_reader *reader, uint8_t *pairs, const uint8_t
         if ((done >> row & 1) == 0) {
             done |= 1u << row;
             pairs[size++] = numbers[i];
-            pairs[size++] = reader->present[row - 1];
+            pairs[size++] = table->present[row - 1];
         }
     }
     return size;
@@ -180,7 +211,7 @@ static uint8_t put_values(peer_reader *reader, const uint8_t *numbers, size_t co
     uint8_t *answer = reader->answer;
     uint8_t *pairs = answer + AT_DATA + 1;
     bool all = memchr(numbers, ALL, count) != NULL;
-    size_t size = all ? put_all(reader, pairs) : put_asked(reader, pairs, numbers, count);
+    size_t size = all ? put_all(&reader->table, pairs) : put_asked(&reader->table, pairs, numbers, count);
     answer[AT_LENGTH] = (uint8_t)(AT_DATA + 1 + size);
     answer[AT_OPCODE] = PARAM_SEND;
     answer[AT_SOURCE] = READER;
@@ -210,8 +241,8 @@ peer_built peer_reader_save(const peer_reader *reader, uint8_t *room, size_t roo
     room[AT_COUNT] = PEER_PARAMETERS;
     for (size_t i = 0; i < PEER_PARAMETERS; i++) {
         room[AT_PAIRS + 2 * i] = rows[i].number;
-        room[AT_PAIRS + 2 * i + 1] = reader->permanent[i];
-        if (reader->locks[i]) {
+        room[AT_PAIRS + 2 * i + 1] = reader->table.permanent[i];
+        if (locked(&reader->table, i)) {
             room[size++] = rows[i].number;
         }
     }
@@ -255,13 +286,14 @@ uint32_t peer_reader_load(peer_reader *reader, const uint8_t *form, size_t count
     if (!form_right(form, count)) {
         return PEER_FORM;
     }
+    peer_table *table = &reader->table;
     for (size_t i = 0; i < PEER_PARAMETERS; i++) {
-        reader->permanent[i] = form[AT_PAIRS + 2 * i + 1];
-        reader->locks[i] = false;
+        table->permanent[i] = form[AT_PAIRS + 2 * i + 1];
+        table->locked[i] = 0;
     }
-    memcpy(reader->present, reader->permanent, sizeof reader->present);
+    peer_table_power_up(table);
     for (size_t i = AT_LOCKS; i < count; i++) {
-        reader->locks[row_of[form[i]] - 1] = true;
+        table->locked[row_of[form[i]] - 1] = 1;
     }
     framer_forget(&reader->framer);
     reader->kept_size = 0;
@@ -305,7 +337,7 @@ static uint8_t judge_head(const uint8_t *packet)
     return judge_length(packet[AT_OPCODE], packet[AT_LENGTH] - AT_DATA);
 }
 
-static uint8_t judge_data(const peer_reader *reader, uint8_t opcode, const uint8_t *data, size_t count)
+static uint8_t judge_data(const peer_table *table, uint8_t opcode, const uint8_t *data, size_t count)
 {
     if (opcode == BEEP) {
         return data[0] <= HIGHEST_BEEP ? PEER_NOTHING : PEER_BEEP;
@@ -316,7 +348,7 @@ static uint8_t judge_data(const peer_reader *reader, uint8_t opcode, const uint8
     if (data[0] > HIGHEST_BEEP && data[0] != NO_BEEP) {
         return PEER_BEEP;
     }
-    return settings_allowed(reader, data + 1, count - 1) ? PEER_NOTHING : PEER_SETTING;
+    return settings_allowed(table, data + 1, count - 1) ? PEER_NOTHING : PEER_SETTING;
 }
 
 static void sound(peer_reader_told *told, uint8_t code)
@@ -341,11 +373,11 @@ static void act(peer_reader *reader, const uint8_t *packet, peer_reader_told *to
         switches->aim = true;
         break;
     case PARAM_SEND:
-        told->changed = set(reader, data + 1, count - 1, packet[AT_STATUS] & PERMANENT);
+        told->changed = set(&reader->table, data + 1, count - 1, packet[AT_STATUS] & PERMANENT);
         sound(told, data[0]);
         break;
     case PARAM_DEFAULTS:
-        told->changed = set_back(reader);
+        told->changed = set_back(&reader->table);
         break;
     case START_SESSION:
         switches->session |= switches->scanning;
@@ -422,7 +454,7 @@ static peer_reader_told take(peer_reader *reader)
     if (framer_repeats(&reader->framer)) {
         return answer_again(reader);
     }
-    refusal = judge_data(reader, packet[AT_OPCODE], packet + AT_DATA, packet[AT_LENGTH] - AT_DATA);
+    refusal = judge_data(&reader->table, packet[AT_OPCODE], packet + AT_DATA, packet[AT_LENGTH] - AT_DATA);
     if (refusal != PEER_NOTHING) {
         return refuse(reader, refusal);
     }

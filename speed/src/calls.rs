@@ -27,6 +27,8 @@ pub const PACKET: usize = 257;
 pub const HUB_ANSWER: usize = 7;
 pub const READER_ANSWER: usize = 25;
 pub const SET: usize = 30;
+/// A parameter table: present values, permanent values and locks, nine of each.
+pub const TABLE: usize = 27;
 
 /// What a call brought, of whichever kind. What a call has none of is empty or 0.
 #[derive(Clone, Copy, Default, PartialEq)]
@@ -37,6 +39,7 @@ pub struct Told<'a> {
     pub values: [u8; 4],
     /// What goes on the line: an answer, those of a block, a copy, a packet that was built. Or a saved set.
     pub packet: &'a [u8],
+    /// A message that was handed out, or all bytes of the table that was altered.
     pub message: &'a [u8],
     /// How many bytes a block call took.
     pub taken: usize,
@@ -68,6 +71,49 @@ pub trait Machine {
 pub trait Blocks: Machine {
     fn block<'a>(&'a mut self, bytes: &[u8], room: &'a mut [u8]) -> Told<'a>;
 }
+
+/// A parameter table that a board keeps, altered where it stands. Any bytes are one.
+pub trait Table {
+    fn of(bytes: [u8; TABLE]) -> Self;
+    fn bytes(&self) -> &[u8; TABLE];
+    /// Tells the number.
+    fn set(&mut self, pairs: &[u8], permanent: bool) -> u32;
+    fn defaults(&mut self);
+    fn power_up(&mut self);
+}
+
+/// A table as its bytes, through foreign calls that alter it: the library's, or the peer's.
+///
+/// SAFETY, of every call: a table of either is these bytes and no others, and pairs have their own length.
+macro_rules! table_through {
+    ($set:ident, $defaults:ident, $power_up:ident) => {
+        pub struct Table([u8; $crate::calls::TABLE]);
+
+        impl $crate::calls::Table for Table {
+            fn of(bytes: [u8; $crate::calls::TABLE]) -> Table {
+                Table(bytes)
+            }
+
+            fn bytes(&self) -> &[u8; $crate::calls::TABLE] {
+                &self.0
+            }
+
+            #[inline(always)]
+            fn set(&mut self, pairs: &[u8], permanent: bool) -> u32 {
+                unsafe { $set(self.0.as_mut_ptr().cast(), pairs.as_ptr(), pairs.len(), permanent) }
+            }
+
+            fn defaults(&mut self) {
+                unsafe { $defaults(self.0.as_mut_ptr().cast()) };
+            }
+
+            fn power_up(&mut self) {
+                unsafe { $power_up(self.0.as_mut_ptr().cast()) };
+            }
+        }
+    };
+}
+pub(crate) use table_through;
 
 pub trait Sender {
     fn new() -> Self;

@@ -6,6 +6,7 @@ mod calls;
 mod clock;
 mod count;
 mod in_c;
+mod in_place;
 mod other;
 mod passes;
 mod paths;
@@ -71,7 +72,8 @@ fn run(directory: &str, amount: Amount, emulated: bool) -> Result<(), String> {
         return Err("the calls whose stack is measured are not those of the archive".to_string());
     }
     let compared = same::compare(amount.streams)?;
-    println!("Peer and second program do the same in {compared} calls.\n");
+    println!("Peer and second program do the same in {compared} calls.");
+    println!("{}\n", in_place::compare()?);
     let counted = match count::calibrate() {
         Ok(()) => Some(counted(amount.counted)?),
         Err(why) => {

@@ -2,11 +2,12 @@
 
 use second::framer::LineEvent;
 use second::hub::{self, Done, HubStep};
+use second::kept::KeptTable;
 use second::packet::{self, Packet, Refusal, CMD_ACK, CMD_NAK, HOST};
 use second::reader::{self, Step};
 use second::sender::{self, End, First, Sent};
 
-use crate::calls::{self, Event, Fields, Told, ACK, HUB_ANSWER, MESSAGE, PACKET, READER_ANSWER, SET, TIME_OUT};
+use crate::calls::{self, Event, Fields, Told, ACK, HUB_ANSWER, MESSAGE, PACKET, READER_ANSWER, SET, TABLE, TIME_OUT};
 use crate::calls::{ACTED, ADDED, COPY, DELIVERED, FAILED, FOUND, HANDED_OUT, REPEATED, WRITTEN};
 
 pub struct Packets(pub [u8; PACKET]);
@@ -29,6 +30,8 @@ pub struct Reader {
     pub answer: [u8; READER_ANSWER],
     pub copy: [u8; PACKET],
 }
+
+pub struct Table(KeptTable);
 
 fn event_of(event: Event) -> LineEvent {
     match event {
@@ -173,6 +176,31 @@ impl calls::Sender for Sender {
             _ => Sent::Nothing,
         };
         sent(brought, &mut self.copy)
+    }
+}
+
+impl calls::Table for Table {
+    fn of(bytes: [u8; TABLE]) -> Table {
+        Table(KeptTable(bytes))
+    }
+
+    fn bytes(&self) -> &[u8; TABLE] {
+        &self.0 .0
+    }
+
+    #[inline(never)]
+    fn set(&mut self, pairs: &[u8], permanent: bool) -> u32 {
+        self.0.set(pairs, permanent).map_or_else(number, |()| 0)
+    }
+
+    #[inline(never)]
+    fn defaults(&mut self) {
+        self.0.defaults();
+    }
+
+    #[inline(never)]
+    fn power_up(&mut self) {
+        self.0.power_up();
     }
 }
 

@@ -6,8 +6,8 @@ use std::arch::asm;
 
 use second::packet::{CHECKSUM, DECODE_DATA, HEADER, READER};
 
-use crate::calls::{Blocks, Event, Fields, Machine, Packets, Sender, Told, BLOCK, BLOCK_ANSWERS, PACKET};
-use crate::streams::{Errand, Stream};
+use crate::calls::{Blocks, Event, Fields, Machine, Packets, Sender, Table, Told, BLOCK, BLOCK_ANSWERS, PACKET, TABLE};
+use crate::streams::{self, Errand, List, Stream};
 
 pub trait Work {
     /// All calls of one pass, from the same state each time. `see` is shown what each brought.
@@ -127,6 +127,42 @@ impl<S: Sender> Work for Errands<'_, S> {
             .map(|heard| heard.map_or("a start".to_string(), |heard| format!("heard {heard}")))
             .nth(call)
             .expect("a call")
+    }
+}
+
+/// Lists set one after the other in a board's table.
+pub struct Lists<'a, T> {
+    lists: &'a [List],
+    /// At the start of a pass.
+    first: [u8; TABLE],
+    table: T,
+}
+
+impl<'a, T: Table> Lists<'a, T> {
+    pub fn new(lists: &'a [List]) -> Lists<'a, T> {
+        let first = streams::board();
+        Lists { lists, first, table: T::of(first) }
+    }
+}
+
+impl<T: Table> Work for Lists<'_, T> {
+    fn pass(&mut self, mut see: impl FnMut(Told)) {
+        let Lists { lists, first, table } = self;
+        *table = T::of(*first);
+        for List { pairs, permanent } in lists.iter() {
+            let number = table.set(pairs, *permanent);
+            see(Told { number, message: table.bytes(), ..Told::default() });
+        }
+    }
+
+    #[inline(always)]
+    fn look(told: Told) -> usize {
+        told.number as usize
+    }
+
+    fn describe(&self, call: usize) -> String {
+        let List { pairs, permanent } = &self.lists[call];
+        format!("{pairs:02X?}, permanent: {permanent}")
     }
 }
 
@@ -284,6 +320,28 @@ impl Sender for Nothing {
         ignored(heard as usize);
         Told::default()
     }
+}
+
+impl Table for Nothing {
+    fn of(_: [u8; TABLE]) -> Nothing {
+        Nothing
+    }
+
+    fn bytes(&self) -> &[u8; TABLE] {
+        &[0; TABLE]
+    }
+
+    #[inline(always)]
+    fn set(&mut self, pairs: &[u8], permanent: bool) -> u32 {
+        ignored(pairs.as_ptr() as usize);
+        ignored(pairs.len());
+        ignored(permanent.into());
+        0
+    }
+
+    fn defaults(&mut self) {}
+
+    fn power_up(&mut self) {}
 }
 
 impl Packets for Nothing {

@@ -4,13 +4,14 @@ use motikhund::constants::{BLOCK_VALUES, FRAMER_CONTROL_SIZE, HEAD_VALUES, HUB_C
 use motikhund::constants::{READER_CONTROL_SIZE, READER_VALUES, SENDER_CONTROL_SIZE, SWITCH_VALUES};
 use motikhund::raw::*;
 use second::form;
+use second::kept::KeptTable;
 use second::packet::*;
 use second::reader::ALL;
 use second::sender::PIECE;
 use second::table::{Table, ROWS};
 
 use crate::calls::{Event, Machine, Sender, ACK, BLOCK, BLOCK_ANSWERS, HUB_ANSWER, MESSAGE, NAK_RESEND, PACKET};
-use crate::calls::{READER_ANSWER, SET, TIME_OUT};
+use crate::calls::{READER_ANSWER, SET, TABLE, TIME_OUT};
 use crate::peer::{self, *};
 use crate::proved::RawHub;
 use crate::stack::{calibrate, measured, Depths, Tells};
@@ -389,6 +390,16 @@ impl End {
         measured!(depths, mk_reader_load(control.as_mut_ptr(), control.len(), form.as_ptr(), form.len()));
         measured!(depths, peer_reader_load(&mut *peer.0, form.as_ptr(), form.len()));
     }
+
+    /// A table put in and taken out again, with all control bytes and with one too few.
+    fn board(&mut self, depths: &mut Depths, table: &KeptTable) {
+        let End { control, .. } = self;
+        let mut out = [0; TABLE];
+        for size in [control.len(), control.len() - 1] {
+            measured!(depths, mk_reader_put_table(control.as_mut_ptr(), size, table.0.as_ptr().cast()));
+            measured!(depths, mk_reader_table(control.as_ptr(), size, out.as_mut_ptr().cast()));
+        }
+    }
 }
 
 /// Saved sets, written and read: right ones with every number of locks, and spoiled at each place.
@@ -404,6 +415,44 @@ fn sets(depths: &mut Depths, end: &mut End) {
             wrong[at] = !wrong[at];
             end.load(depths, &wrong);
         }
+    }
+}
+
+/// Tables with every number of locks, and with a value that is not allowed at each place, present and permanent.
+fn boards(depths: &mut Depths, end: &mut End) {
+    let mut table = KeptTable([0; TABLE]);
+    table.defaults();
+    let locks = 2 * ROWS.len();
+    for lock in locks..TABLE {
+        end.board(depths, &table);
+        table.0[lock] = 1;
+    }
+    end.board(depths, &table);
+    for value in 0..locks {
+        let mut wrong = table;
+        wrong.0[value] = !0;
+        end.board(depths, &wrong);
+    }
+}
+
+/// A board's own table with every number of locks: each kind of list, for now and for ever.
+fn table(depths: &mut Depths) {
+    let dice = &mut Dice::new(4);
+    let most = &streams::parameters(dice, MOST_DATA)[1..];
+    let lists = [&[][..], most, &most[1..], &[!0, 0], &[most, &[0x9C, 0]].concat()];
+    for locked in 0..=ROWS.len() {
+        let mut proved = [!0; TABLE];
+        proved[TABLE - ROWS.len()..][..locked].fill(1);
+        let mut peer = proved;
+        for (pairs, permanent) in lists.into_iter().flat_map(|pairs| [(pairs, false), (pairs, true)]) {
+            let (at, count) = (pairs.as_ptr(), pairs.len());
+            measured!(depths, mk_table_set(proved.as_mut_ptr().cast(), at, count, permanent));
+            measured!(depths, peer_table_set(peer.as_mut_ptr().cast(), at, count, permanent));
+        }
+        measured!(depths, mk_table_set_defaults(proved.as_mut_ptr().cast()));
+        measured!(depths, peer_table_defaults(peer.as_mut_ptr().cast()));
+        measured!(depths, mk_table_power_up(proved.as_mut_ptr().cast()));
+        measured!(depths, peer_table_power_up(peer.as_mut_ptr().cast()));
     }
 }
 
@@ -432,6 +481,7 @@ fn reader(depths: &mut Depths, commands: &Stream) {
         }
     }
     sets(depths, &mut end);
+    boards(depths, &mut end);
     end.hear(depths, commands);
     measured!(depths, mk_reader_power_up(end.control.as_mut_ptr(), end.control.len()));
 }
@@ -448,6 +498,7 @@ pub fn depths() -> Result<Depths, String> {
     // All of a message in few calls, with many answers to each.
     hub_blocks(&mut depths, &line.joined(MESSAGE.div_ceil(PIECE)));
     sender(&mut depths);
+    table(&mut depths);
     reader(&mut depths, &from_host());
     Ok(depths)
 }

@@ -3,7 +3,7 @@
 use std::mem::{size_of, MaybeUninit};
 use std::slice;
 
-use crate::calls::{self, Event, Fields, Told, HUB_ANSWER, MESSAGE, PACKET, READER_ANSWER, SET};
+use crate::calls::{self, Event, Fields, Told, HUB_ANSWER, MESSAGE, PACKET, READER_ANSWER, SET, TABLE};
 
 const PARAMETERS: usize = 9;
 
@@ -45,11 +45,16 @@ pub struct CSender {
 }
 
 #[repr(C)]
-pub struct CReader {
-    framer: CFramer,
+pub struct CTable {
     pub present: [u8; PARAMETERS],
     pub permanent: [u8; PARAMETERS],
-    pub locks: [bool; PARAMETERS],
+    pub locked: [u8; PARAMETERS],
+}
+
+#[repr(C)]
+pub struct CReader {
+    framer: CFramer,
+    pub table: CTable,
     /// Scanning, session, aim, LED.
     pub switches: [bool; 4],
     kept_size: u8,
@@ -120,6 +125,9 @@ extern "C" {
     fn peer_sender_init(sender: *mut CSender);
     pub fn peer_sender_send(sender: *mut CSender, code: u8, bytes: *const u8, count: usize) -> CSent;
     pub fn peer_sender_heard(sender: *mut CSender, heard: u32) -> CSent;
+    pub fn peer_table_set(table: *mut CTable, pairs: *const u8, count: usize, permanently: bool) -> u32;
+    pub fn peer_table_defaults(table: *mut CTable);
+    pub fn peer_table_power_up(table: *mut CTable);
     fn peer_reader_init(reader: *mut CReader);
     fn peer_reader_restart(reader: *mut CReader);
     pub fn peer_reader_event(reader: *mut CReader, event: u32) -> CReaderTold;
@@ -129,14 +137,15 @@ extern "C" {
     pub fn peer_reader_load(reader: *mut CReader, form: *const u8, count: usize) -> u32;
     static peer_hub_size: usize;
     static peer_sender_size: usize;
+    static peer_table_size: usize;
     static peer_reader_size: usize;
 }
 
 /// Whether the structs above are as large as those of C.
 pub fn laid_out_alike() -> bool {
     // SAFETY: they are numbers that are never written to.
-    let sizes = unsafe { [peer_hub_size, peer_sender_size, peer_reader_size] };
-    sizes == [size_of::<CHub>(), size_of::<CSender>(), size_of::<CReader>()]
+    let sizes = unsafe { [peer_hub_size, peer_sender_size, peer_table_size, peer_reader_size] };
+    sizes == [size_of::<CHub>(), size_of::<CSender>(), TABLE, size_of::<CReader>()]
 }
 
 pub struct Packets(pub [u8; PACKET]);
@@ -255,6 +264,8 @@ impl calls::Sender for Sender {
         sent(&self.0, told)
     }
 }
+
+calls::table_through!(peer_table_set, peer_table_defaults, peer_table_power_up);
 
 impl calls::Machine for Reader {
     fn new() -> Reader {

@@ -1,12 +1,13 @@
 //! The proved library through its crate's own types, as a firmware in Rust uses it: whatever short way these take is
-//! timed too. Packets are here through the raw calls as well, as a firmware in C makes them, and blocks through these
-//! alone, as they lend a room for the answers.
+//! timed too. Packets are here through the raw calls as well, as a firmware in C makes them, and through these alone
+//! blocks, as they lend a room for the answers, and a board's table, as any bytes are one.
 
 use std::mem::MaybeUninit;
 
 use motikhund::constants::{BLOCK_VALUES, HEAD_VALUES, HUB_CONTROL_SIZE, HUB_VALUES, LINE_SIZE};
 use motikhund::packet::Head;
 use motikhund::raw::{mk_build, mk_check, mk_hub_hear, mk_hub_hear_block, mk_hub_on};
+use motikhund::raw::{mk_table_power_up, mk_table_set, mk_table_set_defaults};
 use motikhund::{packet, Heard, HubTold, Outcome, ReaderTold};
 
 use crate::calls::{self, Event, Fields, Told, HUB_ANSWER, MESSAGE, PACKET};
@@ -176,6 +177,8 @@ impl calls::Blocks for RawHub {
         Told { number, values: [code as u8, 0, 0, 0], packet, message, taken }
     }
 }
+
+calls::table_through!(mk_table_set, mk_table_set_defaults, mk_table_power_up);
 
 fn ended(number: u32, copies: usize) -> Told<'static> {
     Told { number, values: [copies as u8, 0, 0, 0], ..Told::default() }

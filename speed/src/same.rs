@@ -214,7 +214,7 @@ impl Both for Readers {
         let now = second.reader.switches();
         self.switches = [now.enabled, now.session, now.aim, now.led].map(u8::from);
         self.peer_switches = peer.0.switches.map(u8::from);
-        self.locks = [peer.0.locks, second.reader.table().locks].map(|locks| locks.map(u8::from));
+        self.locks = [peer.0.table.locked, second.reader.table().locks.map(u8::from)];
         vec![told]
     }
 
@@ -222,8 +222,8 @@ impl Both for Readers {
         let table = self.second.reader.table();
         vec![
             ("answer room", [&self.peer.0.answer, &self.second.answer]),
-            ("present values", [&self.peer.0.present, &table.present]),
-            ("permanent values", [&self.peer.0.permanent, &table.permanent]),
+            ("present values", [&self.peer.0.table.present, &table.present]),
+            ("permanent values", [&self.peer.0.table.permanent, &table.permanent]),
             ("locks", [&self.locks[0], &self.locks[1]]),
             ("saved set", [&self.sets[0], &self.sets[1]]),
             ("switches", [&self.peer_switches, &self.switches]),

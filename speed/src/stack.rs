@@ -116,6 +116,13 @@ impl Tells for bool {
     }
 }
 
+/// Of a call that tells nothing.
+impl Tells for () {
+    fn number(&self) -> u32 {
+        0
+    }
+}
+
 macro_rules! any {
     ($argument:expr) => {
         _

@@ -2,11 +2,12 @@
 
 use std::ops::Range;
 
+use second::kept::KeptTable;
 use second::packet::*;
 use second::sender::PIECE;
-use second::table::{allowed, HIGHEST_BEEP, NO_BEEP, ROWS};
+use second::table::{allowed, place, HIGHEST_BEEP, NO_BEEP, ROWS};
 
-use crate::calls::{Event, ACK, MESSAGE, NAK_RESEND, TIME_OUT};
+use crate::calls::{Event, ACK, MESSAGE, NAK_RESEND, TABLE, TIME_OUT};
 use crate::in_c::Part;
 
 /// splitmix64.
@@ -33,7 +34,7 @@ impl Dice {
         self.between(1, n) == 1
     }
 
-    fn byte(&mut self) -> u8 {
+    pub fn byte(&mut self) -> u8 {
         self.between(0, 255) as u8
     }
 
@@ -167,14 +168,82 @@ fn contents(dice: &mut Dice, opcode: u8) -> (u8, Vec<u8>) {
 /// The data of a PARAM_SEND with so many allowed pairs.
 pub fn parameters(dice: &mut Dice, pairs: usize) -> Vec<u8> {
     let mut data = vec![NO_BEEP];
-    while data.len() < 1 + 2 * pairs {
+    (0..pairs).for_each(|_| data.extend(allowed_pair(dice)));
+    data
+}
+
+fn allowed_pair(dice: &mut Dice) -> [u8; 2] {
+    loop {
         let [number, low, high, _] = ROWS[dice.between(0, ROWS.len() - 1)];
         let value = dice.between(low.into(), high.into()) as u8;
         if allowed(number, value) {
-            data.extend([number, value]);
+            return [number, value];
         }
     }
-    data
+}
+
+/// For a table: pairs, or bytes that are none, and whether they are to hold for ever.
+pub struct List {
+    pub pairs: Vec<u8>,
+    pub permanent: bool,
+}
+
+/// A pair that a table with these locks takes, if it takes any.
+pub fn good_pair(dice: &mut Dice, locks: &[bool; ROWS.len()]) -> Option<[u8; 2]> {
+    let free = |[number, _]: &[u8; 2]| place(*number).is_some_and(|place| !locks[place]);
+    let any = locks.contains(&false);
+    any.then(|| std::iter::repeat_with(|| allowed_pair(dice)).find(free)).flatten()
+}
+
+/// One that it does not take: a number that is not supported, a value that is not allowed, or, where there is a lock, a
+/// right value for what is locked.
+pub fn bad_pair(dice: &mut Dice, locks: &[bool; ROWS.len()]) -> [u8; 2] {
+    loop {
+        let [right, _, high, _] = ROWS[dice.between(0, ROWS.len() - 1)];
+        let [number, value] = match dice.between(0, 5) {
+            0 => [dice.byte(), dice.byte()],
+            1 => [right + 1, dice.between(0, 1) as u8],
+            2 => [right, dice.byte()],
+            3 => [right, high + 1],
+            // Below the lowest, or between two of the trigger's.
+            4 => [right, dice.between(0, 8) as u8],
+            _ => allowed_pair(dice),
+        };
+        if !allowed(number, value) || place(number).is_some_and(|place| locks[place]) {
+            return [number, value];
+        }
+    }
+}
+
+/// The table in which lists are set: the house defaults, with the trigger and the baud code locked.
+pub fn board() -> [u8; TABLE] {
+    let mut table = KeptTable([0; TABLE]);
+    table.defaults();
+    for number in [0x8A, 0x9C] {
+        table.0[TABLE - ROWS.len() + place(number).expect("a parameter")] = 1;
+    }
+    table.0
+}
+
+/// Lists of 1 to 9 pairs, half of which that table refuses: for a bad pair at any place, or for a byte too few.
+pub fn lists(dice: &mut Dice, volume: usize) -> Vec<List> {
+    let locks = KeptTable(board()).table().locks;
+    let mut lists = Vec::new();
+    let mut size = 0;
+    while size < volume {
+        let mut pairs: Vec<[u8; 2]> = (0..dice.between(1, 9)).filter_map(|_| good_pair(dice, &locks)).collect();
+        let refused = dice.one_in(2);
+        let odd = refused && dice.one_in(8);
+        if refused && !odd {
+            let at = dice.between(0, pairs.len() - 1);
+            pairs[at] = bad_pair(dice, &locks);
+        }
+        let mut pairs = pairs.concat();
+        pairs.truncate(pairs.len() - usize::from(odd));
+        size += pairs.len();
+        lists.push(List { pairs, permanent: dice.one_in(2) });
+    }
+    lists
 }
 
 /// A message for a sender, and what it hears until it is delivered.

@@ -27,6 +27,7 @@ pub fn times(rows: &[TimedRow]) {
     println!("bare: the same bytes summed, with vector instructions; in the rows of building, copied and summed.");
     println!("plain: the same bytes summed one by one, without these.");
     println!("In rows of blocks an event is a call: one with a block of up to 4,096 bytes, or a gap.");
+    println!("In the row of the table it is a call too: a list of 1 to 9 pairs. Half of the lists are refused.");
     println!("In every row all three programs told the same numbers and values and wrote the same bytes.");
 }
 

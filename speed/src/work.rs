@@ -8,8 +8,8 @@ use crate::calls::{Event, Machine, Packets, Sender, Told, COPY, DELIVERED, FOUND
 use crate::clock::Timed;
 use crate::count;
 use crate::passes::{bare_build, bare_check, bare_pass, plain_check, plain_pass};
-use crate::passes::{Builds, Checks, Errands, Events, InBlocks, Nothing, Work};
-use crate::streams::{self, Dice, Errand, Stream};
+use crate::passes::{Builds, Checks, Errands, Events, InBlocks, Lists, Nothing, Work};
+use crate::streams::{self, Dice, Errand, List, Stream};
 use crate::{in_c, other, peer, proved};
 
 /// What one call brought, kept.
@@ -254,6 +254,9 @@ pub struct Inputs {
     errands: Vec<Errand>,
     copies: Stream,
     packets: [Stream; 3],
+    lists: Vec<List>,
+    /// Their bytes.
+    pairs: Stream,
 }
 
 impl Inputs {
@@ -264,16 +267,22 @@ impl Inputs {
         let cards = streams::messages(dice, volume, 7, 11);
         let pieces = streams::messages(dice, volume, PIECE, PIECE);
         let messages = streams::messages(dice, volume, MESSAGE, MESSAGE);
+        let garbage = streams::garbage(dice, volume);
+        let commands = streams::commands(dice, volume);
+        let packets = [8, 60, 257].map(|size| streams::packets(dice, volume, size));
+        let lists = streams::lists(dice, volume);
         Inputs {
             cards,
             pieces,
             joined: messages.joined(MESSAGE.div_ceil(PIECE)),
             messages,
-            garbage: streams::garbage(dice, volume),
-            commands: streams::commands(dice, volume),
+            garbage,
+            commands,
             copies: copies(&errands),
             errands,
-            packets: [8, 60, 257].map(|size| streams::packets(dice, volume, size)),
+            packets,
+            pairs: pairs(&lists),
+            lists,
         }
     }
 }
@@ -287,6 +296,13 @@ fn copies(errands: &[Errand]) -> Stream {
         }
     });
     copies
+}
+
+/// The bytes of lists, a part for each.
+fn pairs(lists: &[List]) -> Stream {
+    let mut pairs = Stream::default();
+    lists.iter().for_each(|list| pairs.add(&list.pairs, Event::CharacterGap));
+    pairs
 }
 
 /// Through Rust, the proved library through its crate.
@@ -307,19 +323,14 @@ fn by_the_crate<'a, P: Machine + 'a, Q: Machine + 'a, S: Machine + 'a>(
 }
 
 /// The same row with the passes that C makes. They must tell what the programs told when they were compared.
-fn by_c<'a>(row: Row<'a>, stream: &Stream, passes: in_c::Passes<in_c::Call>, bar: f64) -> Row<'a> {
+fn by_c<'a>(row: Row<'a>, stream: &Stream, passes: in_c::Passes<in_c::Call>, bars: Vec<Against>) -> Row<'a> {
     let in_c::Passes { proved, peer, none } = passes;
     let events: Rc<[u16]> = stream.numbers().into();
     let over = |mut pass: in_c::Pass<in_c::Call>| -> Pass<'a> {
         let events = Rc::clone(&events);
         Box::new(move || pass.over(&events))
     };
-    Row {
-        bars: vec![Against::Peer(bar)],
-        passes: Five { proved: over(proved), peer: over(peer), ..row.passes },
-        around: over(none),
-        ..row
-    }
+    Row { bars, passes: Five { proved: over(proved), peer: over(peer), ..row.passes }, around: over(none), ..row }
 }
 
 /// A hub's row in blocks: compared through Rust, then with the passes that C makes.
@@ -359,11 +370,25 @@ fn reader_by_the_crate<'a>(name: &'static str, stream: &'a Stream) -> Result<Row
 }
 
 fn hub<'a>(name: &'static str, stream: &'a Stream, bar: f64) -> Result<Row<'a>, String> {
-    Ok(by_c(hub_by_the_crate(name, stream)?, stream, in_c::hub(), bar))
+    Ok(by_c(hub_by_the_crate(name, stream)?, stream, in_c::hub(), vec![Against::Peer(bar)]))
 }
 
 fn reader<'a>(name: &'static str, stream: &'a Stream, bar: f64) -> Result<Row<'a>, String> {
-    Ok(by_c(reader_by_the_crate(name, stream)?, stream, in_c::reader(), bar))
+    let bars = vec![Against::Peer(bar), Against::Second(1.0)];
+    Ok(by_c(reader_by_the_crate(name, stream)?, stream, in_c::reader(), bars))
+}
+
+fn table<'a>(name: &'static str, lists: &'a [List], pairs: &'a Stream) -> Result<Row<'a>, String> {
+    let programs = Programs {
+        proved: Lists::<proved::Table>::new(lists),
+        peer: Lists::<peer::Table>::new(lists),
+        second: Lists::<other::Table>::new(lists),
+        nothing: Lists::<Nothing>::new(lists),
+        bare: bare_pass,
+        plain: plain_pass,
+        bytes: pairs,
+    };
+    row(name, programs, vec![])
 }
 
 fn sender<'a>(name: &'static str, errands: &'a [Errand], copies: &'a Stream) -> Result<Row<'a>, String> {
@@ -424,6 +449,7 @@ pub fn rows(inputs: &Inputs) -> Result<Vec<Row<'_>>, String> {
         sender("sender, 17 pieces", &inputs.errands, &inputs.copies),
         reader("reader, commands", &inputs.commands, 2.2),
         reader_by_the_crate("reader, commands, by the crate", &inputs.commands),
+        table("table, lists", &inputs.lists, &inputs.pairs),
         // No bar for small packets: most of their time is the call's.
         check("check, 8 bytes", small, None),
         check("check, 60 bytes", middle, None),

@@ -1,8 +1,9 @@
 //! Each call of the library once, over slices and arrays. This is the only unsafe code of the crate.
 //!
 //! Why it is sound (the rule that each SAFETY comment names): every pointer comes from a reference that lives through
-//! the call, with the slice's own length; `&mut` says that no two of them overlap. The library takes any bytes, and
-//! reads and writes only what it is lent; that is proved of it in `crates/motikhund`. It keeps no pointer.
+//! the call, with the slice's own length; `&mut` says that no two of them overlap. A table is bytes alone, in the order
+//! that C has them. The library takes any bytes, and reads and writes only what it is lent; that is proved of it in
+//! `crates/motikhund`. It keeps no pointer.
 //!
 //! Each gives the library's number, and the values that were told with it.
 
@@ -10,7 +11,7 @@ use crate::constants::{
     BLOCK_VALUES, GOING_SIZE, HEAD_VALUES, HUB_VALUES, LINE_SIZE, MESSAGE_SIZE, READER_ANSWER_SIZE, READER_VALUES,
     START_VALUES, SWITCH_VALUES,
 };
-use crate::raw;
+use crate::{raw, Table};
 
 pub(crate) fn check(bytes: &[u8]) -> (u32, [usize; HEAD_VALUES]) {
     let mut head = [0; HEAD_VALUES];
@@ -272,4 +273,29 @@ pub(crate) fn reader_switches(control: &[u8]) -> (u32, [usize; SWITCH_VALUES]) {
     // SAFETY: the rule above.
     let told = unsafe { raw::mk_reader_switches(control.as_ptr(), control.len(), &mut values) };
     (told, values)
+}
+
+pub(crate) fn reader_table(control: &[u8], table: &mut Table) -> u32 {
+    // SAFETY: the rule above.
+    unsafe { raw::mk_reader_table(control.as_ptr(), control.len(), table) }
+}
+
+pub(crate) fn reader_put_table(control: &mut [u8], table: &Table) -> u32 {
+    // SAFETY: the rule above.
+    unsafe { raw::mk_reader_put_table(control.as_mut_ptr(), control.len(), table) }
+}
+
+pub(crate) fn table_set(table: &mut Table, pairs: &[u8], permanent: bool) -> u32 {
+    // SAFETY: the rule above.
+    unsafe { raw::mk_table_set(table, pairs.as_ptr(), pairs.len(), permanent) }
+}
+
+pub(crate) fn table_set_defaults(table: &mut Table) {
+    // SAFETY: the rule above.
+    unsafe { raw::mk_table_set_defaults(table) }
+}
+
+pub(crate) fn table_power_up(table: &mut Table) {
+    // SAFETY: the rule above.
+    unsafe { raw::mk_table_power_up(table) }
 }

@@ -197,6 +197,29 @@ pub const DATA_RAW: u8 = 0;
 /// Packeted data.
 pub const DATA_PACKETED: u8 = 1;
 
+// ---- where each parameter stands in a table, and how many there are: in the order of their numbers
+
+/// Place in a table: 80h, power mode.
+pub const PLACE_POWER_MODE: usize = 0;
+/// Place in a table: 89h, same-symbol time.
+pub const PLACE_SAME_SYMBOL_TIME: usize = 1;
+/// Place in a table: 8Ah, trigger.
+pub const PLACE_TRIGGER: usize = 2;
+/// Place in a table: 9Bh, response time-out.
+pub const PLACE_RESPONSE_TIME_OUT: usize = 3;
+/// Place in a table: 9Ch, baud rate.
+pub const PLACE_BAUD: usize = 4;
+/// Place in a table: 9Eh, parity.
+pub const PLACE_PARITY: usize = 5;
+/// Place in a table: 9Fh, whether the reader sends ACK and NAK.
+pub const PLACE_ACK_NAK: usize = 6;
+/// Place in a table: EDh, aim duration.
+pub const PLACE_AIM_DURATION: usize = 7;
+/// Place in a table: EEh, packeted data.
+pub const PLACE_PACKETED_DATA: usize = 8;
+/// The places of a table.
+pub const PLACES: usize = 9;
+
 // ---- a beep's duration and pitch (docs/PROTOCOL.md §13)
 
 /// A short beep.

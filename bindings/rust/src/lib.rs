@@ -3,9 +3,9 @@
 //! Nothing is allocated, nothing panics, and no call trusts its caller.
 //!
 //! [`Framer`], [`Hub`], [`Sender`] and [`Reader`] own their buffers: give them events, and send the answers and copies
-//! that they hand out. [`lent`] has the same machines over buffers that the caller keeps, [`packet`] the packet alone,
-//! [`constants`] every number by its name, [`raw`] the archive's calls. Names are those of C: `Hub::event` is
-//! `mk_hub_event`, `lent::hub::hear` is `mk_hub_hear`.
+//! that they hand out. [`Table`] is a reader's parameter table that a board keeps itself. [`lent`] has the same machines
+//! over buffers that the caller keeps, [`packet`] the packet alone, [`constants`] every number by its name, [`raw`] the
+//! archive's calls. Names are those of C: `Hub::event` is `mk_hub_event`, `lent::hub::hear` is `mk_hub_hear`.
 //!
 //! ```
 //! use motikhund::{Event, Hub, HubTold};
@@ -122,6 +122,7 @@ pub mod raw;
 mod reader;
 mod refusal;
 mod sender;
+mod table;
 
 pub use framer::{Found, Framer};
 pub use heard::{Event, Heard, Reply};
@@ -130,6 +131,7 @@ pub use lent::sender::heed;
 pub use reader::{Beep, Reader, ReaderTold, Switches};
 pub use refusal::Refusal;
 pub use sender::{Outcome, Sender};
+pub use table::Table;
 
 /// The version of this crate and of the archive, as `MK_VERSION` in C. Its first two numbers rise with each change of
 /// what stands where in a control value, the last with every other landing. So whoever stores a control value stores

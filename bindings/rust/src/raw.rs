@@ -1,23 +1,25 @@
 //! The library's calls as they stand in the archive, for those who want them bare. [`lent`](crate::lent) has the same
 //! calls by the same names over slices, without `unsafe`; [`constants`](crate::constants) names every number here.
 //!
-//! Each takes a slice as a pointer and a length; a fixed array is a pointer alone. Each gives 0
+//! Each takes a slice as a pointer and a length; a fixed array or a table is a pointer alone. Each gives 0
 //! ([`NOTHING`](crate::constants::NOTHING)), a refusal's number ([`Refusal`](crate::Refusal)), or a number of 100 and
 //! above, and tells its values beside it; with a refusal they are 0, but for the size of an answer and the bytes taken
-//! of a block. What each promises is proved where it is written, in `crates/motikhund`: it ends, and reads and writes
-//! only what it is lent, whatever the bytes in it are.
+//! of a block. Two that refuse nothing give nothing ([`mk_table_set_defaults`], [`mk_table_power_up`]). What each promises
+//! is proved where it is written, in `crates/motikhund`: it ends, and reads and writes only what it is lent, whatever
+//! the bytes in it are.
 //!
 //! # Safety
 //!
 //! For every call: each pointer is valid for reads, and a `*mut` also for writes, of the length that comes with it, or
-//! of its array; it is not null, even where the length is 0; and nothing else uses those bytes while the call runs, nor
-//! do two pointers of one call overlap. Alignment is asked for only of the numbers told (`head`, `size`, `value`,
-//! `values`). No call keeps a pointer.
+//! of its array or table; it is not null, even where the length is 0; and nothing else uses those bytes while the call
+//! runs, nor do two pointers of one call overlap. Alignment is asked for only of the numbers told (`head`, `size`,
+//! `value`, `values`). No call keeps a pointer.
 
 use crate::constants::{
     BLOCK_VALUES, GOING_SIZE, HEAD_VALUES, HUB_VALUES, LINE_SIZE, MESSAGE_SIZE, READER_ANSWER_SIZE, READER_VALUES,
     START_VALUES, SWITCH_VALUES,
 };
+use crate::Table;
 
 extern "C" {
     /// Judges the front of some bytes: `PACKET` and its head (`HEAD_..`), or `Cut`, `Length`, `Checksum`.
@@ -278,4 +280,37 @@ extern "C" {
     /// # Safety
     /// As [above](self#safety).
     pub fn mk_reader_switches(control: *const u8, control_len: usize, values: *mut [usize; SWITCH_VALUES]) -> u32;
+
+    /// Takes a reader's table out, each lock as 1 or 0: `NOTHING`; or `Room`, and the table is left as it was.
+    ///
+    /// # Safety
+    /// As [above](self#safety).
+    pub fn mk_reader_table(control: *const u8, control_len: usize, table: *mut Table) -> u32;
+
+    /// Puts a table into a reader: `NOTHING`, and values and locks are those of the table, the last accepted packet is
+    /// forgotten, and all else stays. Or, in this order, `Room`; `Setting` for a value that its parameter does not
+    /// take. Then every control byte stays.
+    ///
+    /// # Safety
+    /// As [above](self#safety).
+    pub fn mk_reader_put_table(control: *mut u8, control_len: usize, table: *const Table) -> u32;
+
+    /// Sets a list of pairs, number and value, all or nothing, the present values or both: `NOTHING`; or, in this
+    /// order, `Data` for an odd number of bytes; `Setting`. Then not a byte of the table changes.
+    ///
+    /// # Safety
+    /// As [above](self#safety).
+    pub fn mk_table_set(table: *mut Table, pairs: *const u8, pairs_len: usize, permanent: bool) -> u32;
+
+    /// Every parameter that is not locked gets its house default, present and permanent.
+    ///
+    /// # Safety
+    /// As [above](self#safety).
+    pub fn mk_table_set_defaults(table: *mut Table);
+
+    /// The permanent values become the present ones.
+    ///
+    /// # Safety
+    /// As [above](self#safety).
+    pub fn mk_table_power_up(table: *mut Table);
 }

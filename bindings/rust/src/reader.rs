@@ -4,15 +4,15 @@ use core::mem::{align_of, size_of};
 
 use crate::buffer::Buffer;
 use crate::constants::{
-    ACK_NAK_ON, BAUD_9600, DATA_PACKETED, LINE_SIZE, MESSAGE_SIZE, PACKET_SIZE, PARITY_NONE, POWER_CONTINUOUS,
-    READER_ANSWER_SIZE, READER_CONTROL_SIZE, READER_VALUES, READER_VALUE_COUNT, READER_VALUE_DURATION,
-    READER_VALUE_PITCH, SET_SIZE, SWITCH_AIM, SWITCH_LED, SWITCH_SCANNING, SWITCH_SESSION, SWITCH_VALUES,
-    TRIGGER_LEVEL,
+    LINE_SIZE, MESSAGE_SIZE, PACKET_SIZE, READER_ANSWER_SIZE, READER_CONTROL_SIZE, READER_VALUES, READER_VALUE_COUNT,
+    READER_VALUE_DURATION, READER_VALUE_PITCH, SET_SIZE, SWITCH_AIM, SWITCH_LED, SWITCH_SCANNING, SWITCH_SESSION,
+    SWITCH_VALUES,
 };
 use crate::lent::reader;
 use crate::numbers::byte;
 use crate::sender::Outcome;
-use crate::{Event, Refusal};
+use crate::table::DEFAULTS;
+use crate::{Event, Refusal, Table};
 
 /// A sound to be made, as a beep code has it (docs/PROTOCOL.md §13).
 #[derive(Clone, Copy, Debug, PartialEq, Eq, Hash)]
@@ -123,8 +123,6 @@ impl<'a> ReaderTold<'a> {
 const ON: [u8; READER_CONTROL_SIZE] = {
     const PRESENT: usize = 26;
     const SCANNING: usize = 53;
-    const DEFAULTS: [u8; 9] =
-        [POWER_CONTINUOUS, 10, TRIGGER_LEVEL, 20, BAUD_9600, PARITY_NONE, ACK_NAK_ON, 0, DATA_PACKETED];
     let mut control = [0; READER_CONTROL_SIZE];
     let mut at = 0;
     while at < DEFAULTS.len() {
@@ -262,8 +260,42 @@ impl Reader {
         reader::load(&mut self.control, form)
     }
 
-    /// Whether a parameter is locked; one that is not supported is not. Only a set locks and unlocks. A PARAM_SEND that
-    /// names a locked one is [`Refusal::Setting`], and PARAM_DEFAULTS leaves it both its values.
+    /// The table of its parameters, taken out: present values, permanent values and locks. The reader keeps its own.
+    pub fn table(&self) -> Table {
+        // The control bytes have their size: nothing to refuse.
+        reader::table(&self.control).unwrap_or_default()
+    }
+
+    /// Puts a table into the reader: its values, present and permanent, and its locks are the reader's, and they hold at
+    /// once. The last accepted packet is forgotten, as by [`load`](Reader::load): a resent equal of it is performed anew
+    /// and not answered from memory, because that answer would claim a change that the table put back may have undone.
+    /// All else stays: a packet begun, a message out, what a start says of a gap, what is switched on. Nothing goes out
+    /// on the line. A value, present or permanent, that its parameter does not take is [`Refusal::Setting`], with
+    /// nothing changed.
+    ///
+    /// Give it no event between taking out and putting back: what a host set in between would be lost. Then it is time
+    /// to [`save`](Reader::save) where a permanent value or a lock changed, and to set the port anew where 9Ch or 9Eh
+    /// did.
+    ///
+    /// ```
+    /// use motikhund::constants::{BAUD_19200, PARAMETER_BAUD, PLACE_BAUD};
+    /// use motikhund::Reader;
+    ///
+    /// let mut reader = Reader::new();
+    /// let mut table = reader.table();
+    /// table.set(&[PARAMETER_BAUD, BAUD_19200], true)?;
+    /// table.locked[PLACE_BAUD] = 1; // from here on no host changes it
+    /// reader.put_table(&table)?;
+    /// assert_eq!(reader.parameter(PARAMETER_BAUD), BAUD_19200);
+    /// assert!(reader.locked(PARAMETER_BAUD));
+    /// # Ok::<(), motikhund::Refusal>(())
+    /// ```
+    pub fn put_table(&mut self, table: &Table) -> Result<(), Refusal> {
+        reader::put_table(&mut self.control, table)
+    }
+
+    /// Whether a parameter is locked; one that is not supported is not. Only a set or a table locks and unlocks. A
+    /// PARAM_SEND that names a locked one is [`Refusal::Setting`], and PARAM_DEFAULTS leaves it both its values.
     pub fn locked(&self, number: u8) -> bool {
         reader::locked(&self.control, number).unwrap_or(false)
     }

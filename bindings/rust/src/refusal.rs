@@ -3,7 +3,8 @@
 use core::error::Error;
 use core::fmt;
 
-/// Why a call or a packet is refused, and its number (docs/PROTOCOL.md §6). With 11 and above no lent byte changes.
+/// Why a call or a packet is refused, and its number (docs/PROTOCOL.md §6). With 11 and above no lent byte changes, nor
+/// where a table refuses a list, or a reader a table ([`Table`](crate::Table)).
 #[derive(Clone, Copy, Debug, PartialEq, Eq, PartialOrd, Ord, Hash)]
 pub enum Refusal {
     /// Length below 4.
@@ -18,7 +19,7 @@ pub enum Refusal {
     Status = 5,
     /// Opcode unknown to this side.
     Opcode = 6,
-    /// Data length wrong for the opcode.
+    /// Data length wrong for the opcode. Table: a list that ends inside a pair.
     Data = 7,
     /// Beep code not allowed.
     Beep = 8,
@@ -73,7 +74,7 @@ impl fmt::Display for Refusal {
             Refusal::Source => "a source that is wrong for this side",
             Refusal::Status => "a status bit that is not allowed",
             Refusal::Opcode => "an opcode that this side does not know",
-            Refusal::Data => "a data length that is wrong for the opcode",
+            Refusal::Data => "a data length that is wrong for the opcode, or a list that ends inside a pair",
             Refusal::Beep => "a beep code that is not allowed",
             Refusal::Setting => "a parameter or value that is not allowed, or a parameter that is locked",
             Refusal::Barred => "the hub is barred, another code type, or too long a message",

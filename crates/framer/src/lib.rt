@@ -26,10 +26,10 @@ pub enum Event {
     MessageGap,
 }
 
-// How many bytes of the packet begun stand in the line buffer, and whether all bytes are ignored until the next gap.
+// Whether all bytes are ignored until the next gap, and how many bytes of the packet begun stand in the line buffer.
 pub struct Framer {
-    pub count: usize,
     pub deaf: bool,
+    pub count: usize,
 }
 
 // What an event ended: nothing, a packet that stands at the front of the line buffer, or a refusal.

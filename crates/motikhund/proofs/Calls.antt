@@ -56,8 +56,8 @@ use Rattle.reader.specs.declared.Loaded.{Loaded}
 use Rattle.reader.proofs.Loading as loading
 use Rattle.motikhund.specs.Lent.{Need, atLeast, Lacking, here, there, Enough, none, more, Asks, IfNamed, KeptUnless, Kept, Made}
 use Rattle.motikhund.specs.Control.{senderControlSize, readerControlSize, numberIn, numberBytes, flagIn, framerIn, framerBytes, hubIn, hubBytes, senderIn, senderBytes, readerIn, readerBytes, FramerIn, PutsNumber, PutsFramer, HubIn, PutsHub, SenderIn, PutsSender, ReaderIn, PutsReader, FlagByte, Switches, PermanentChanged}
-use Rattle.motikhund.specs.Numbers.{isEvent, isReply, noHead, EventOf, HeardOf, HeardNumber, ReplyOf, CheckedNumber, CheckedValues, FoundNumber, FoundValues, BuiltNumber, HubNumber, HubValues, OutcomeNumber, OutcomeValue, StartValues, isRefused, OutcomeRefused, waitsNumber, ReaderNumber, ReaderValues, verdictNumber, isUnread, WrittenNumber, WrittenSize, VerdictNumber, Unread}
-use Rattle.motikhund.specs.Promises.{PacketChecks, PacketBuilds, PacketAnswers, FramerHears, GoesOn, HubHears, HubTakesBlock, HubHearsBlock, Brings, Begins, SenderStarts, SenderHears, SenderWaits, SenderHeeds, FreshReader, ReaderStarts, ReaderTimesOut, ReaderHears, ReaderValue, ReaderLocked, ReaderSaves, unreadNumber, ReaderLoads, ReaderSwitches}
+use Rattle.motikhund.specs.Numbers.{isEvent, isReply, noHead, EventOf, HeardOf, HeardNumber, ReplyOf, CheckedNumber, CheckedValues, FoundNumber, FoundValues, BuiltNumber, HubNumber, HubValues, OutcomeNumber, OutcomeValue, StartValues, isRefused, OutcomeRefused, waitsNumber, ReaderNumber, ReaderValues, verdictNumber, isUnread, WrittenNumber, WrittenSize, VerdictNumber, Unread, settledNumber}
+use Rattle.motikhund.specs.Promises.{PacketChecks, PacketBuilds, PacketAnswers, FramerHears, GoesOn, HubHears, HubTakesBlock, HubHearsBlock, Brings, Begins, SenderStarts, SenderHears, SenderWaits, SenderHeeds, FreshReader, ReaderStarts, ReaderTimesOut, ReaderHears, ReaderValue, ReaderLocked, ReaderSaves, ReaderLoads, ReaderSwitches}
 use Rattle.motikhund.proofs.Reading.{number-back, framer-back, hub-back, sender-back, reader-back}
 
 -- ---- what is lent
@@ -68,10 +68,10 @@ lacking-enough (here h) (more l e) = omega arith
 lacking-enough (there k) (more l e) = lacking-enough k e
 
 module _ {needs : List Need} {Refuses Takes : Type 0} where
-  asks-13 : Lacking needs → Refuses → Asks needs Refuses Takes
+  pub asks-13 : Lacking needs → Refuses → Asks needs Refuses Takes
   asks-13 k r = record { refuses = λ _. r; takes = λ e. absurd (lacking-enough k e) }
 
-  asks-enough : Enough needs → Takes → Asks needs Refuses Takes
+  pub asks-enough : Enough needs → Takes → Asks needs Refuses Takes
   asks-enough e t = record { refuses = λ k. absurd (lacking-enough k e); takes = λ _. t }
 
 module _ {named : Bool} {Nothing Takes : Type 0} where
@@ -115,7 +115,7 @@ sender-kept : {s : Sender} {control control′ : List ℕ} → PutsSender s cont
 unfolding over
 sender-kept {s} {control} k = record { control-is = k .is; reads = rw (k .is) (sender-back s (drop (length (senderBytes s)) control) (k .small)) }
 
-reader-kept : {r : Reader} {control control′ : List ℕ} → PutsReader r control control′ → Kept readerIn readerBytes r control control′
+pub reader-kept : {r : Reader} {control control′ : List ℕ} → PutsReader r control control′ → Kept readerIn readerBytes r control control′
 unfolding over
 reader-kept {r} {control} k = record { control-is = k .is; reads = rw (k .is) (reader-back r (drop (length (readerBytes r)) control) (k .small)) }
 
@@ -127,11 +127,11 @@ refused-named (outcome.Delivered copies) e k = never (cc)
 refused-named (outcome.Failed copies) e k = never (cc)
 refused-named (outcome.Refused x) e k = k x refl
 
-alone : {C : Type 0} {read : List ℕ → C} {bytes : C → List ℕ} {value before : C} {control : List ℕ} {refused : Bool} → refused ≡ true → before ≡ read control → value ≡ before →
+pub alone : {C : Type 0} {read : List ℕ → C} {bytes : C → List ℕ} {value before : C} {control : List ℕ} {refused : Bool} → refused ≡ true → before ≡ read control → value ≡ before →
     KeptUnless refused read bytes value control control
 alone e before-is same = record { control-is = simp e; reads = sym (same ∙ before-is) }
 
-put-back : {C : Type 0} {read : List ℕ → C} {bytes : C → List ℕ} {value : C} {control control′ : List ℕ} {refused : Bool} → refused ≡ false →
+pub put-back : {C : Type 0} {read : List ℕ → C} {bytes : C → List ℕ} {value : C} {control control′ : List ℕ} {refused : Bool} → refused ≡ false →
     Kept read bytes value control control′ → KeptUnless refused read bytes value control control′
 put-back e k = record { control-is = k .control-is ∙ simp e; reads = k .reads }
 
@@ -446,15 +446,15 @@ pub reader-saves : {control room room′ : List ℕ} {r size : ℕ} {made : Writ
 reader-saves {made = made} c before-is saves size told =
     record { asks = asks-enough (more c none) (record { made = made; saves = rw (before-is .is) at saves; told = told .is; value = size .is }) }
 
-unread-by : (t : Table) (o : Settled) → verdictNumber (changedOf t o .verdict) 13 ≡ unreadNumber o
+pub settled-number : (t : Table) (o : Settled) (taken : ℕ) → verdictNumber (changedOf t o .verdict) taken ≡ settledNumber o taken
 unfolding changedOf
-unread-by t (done v) = refl
-unread-by t (unsettled x) = refl
+settled-number t (done v) taken = refl
+settled-number t (unsettled x) taken = refl
 
 pub load-13 : {control form : List ℕ} {t : Table} {read : Changed} {r : ℕ} → Lacking (atLeast readerControlSize control ∷ []) → saved.Loads t form read → VerdictNumber (read .verdict) 13 r →
     ReaderLoads control form r control
 load-13 {form = form} {t} k loads told =
-    record { asks = asks-13 k (told .is ∙ (rw (loads .is) (unread-by t (readForm edition1 form))), refl) }
+    record { asks = asks-13 k (told .is ∙ (rw (loads .is) (settled-number t (readForm edition1 form) 13)), refl) }
 
 unread-named : {A : Type 0} (v : Verdict) → isUnread v ≡ true → ((x : Refusal) → v ≡ verdict.Refused x → A) → A
 unread-named verdict.Done e k = never (cc)

@@ -1,9 +1,13 @@
+pub mod Altering
 pub mod Blocks
 pub mod Calls
+pub mod InPlace
+pub mod Lending
 pub mod Reading
 pub mod Refusing
 pub mod ShortWay
 pub mod Storing
+pub mod Tabling
 pub mod Telling
 pub mod Turning
 pub mod Unique

@@ -143,7 +143,7 @@ sender-back s rest k =
     (flag-back (s .out), flag-back (s .failed), flag-back (s .delivered), number-back (s .length) b (k .length), number-back (s .at) c (k .at), number-back (s .size) d (k .size), number-back (s .resends) e (k .resends), number-back (s .copies) rest (k .copies))
     refl
 
-flags-back : (bs : List Bool) → flagsIn (flagBytes bs) ≡ bs
+pub flags-back : (bs : List Bool) → flagsIn (flagBytes bs) ≡ bs
 flags-back [] = refl
 flags-back (b ∷ bs) = rw (flag-back b, flags-back bs) refl
 

@@ -46,9 +46,14 @@ use Rattle.reader.proofs.Refusing as reading-refuses
 use Rattle.reader.proofs.Loading as loading
 use Rattle.motikhund.specs.Lent.{Need, atLeast, Enough, none as no-more, more, Asks, IfNamed, KeptUnless, Made}
 use Rattle.motikhund.specs.Control.{readerControlSize, readerIn, permanentChanged}
-use Rattle.motikhund.specs.Numbers.{replyOf, RefusalNumber, checkedNumber, checkedValues, foundNumber, foundValues, builtNumber, hubNumber, hubValues, blockValues, outcomeNumber, startValues, isRefused, waitsNumber, readerNumber, readerValues, writtenNumber, verdictNumber}
-use Rattle.motikhund.specs.Promises.{PacketChecks, PacketBuilds, PacketAnswers, FramerIdle, FramerHears, HubOn, HubHears, HubHearsBlock, SenderIdle, SenderStarts, SenderHears, SenderWaits, ReaderOn, ReaderPowersUp, ReaderStarts, ReaderTimesOut, ReaderHears, ReaderValue, ReaderLocked, ReaderSaves, unreadNumber, ReaderLoads, ReaderSwitches}
-use Rattle.motikhund.specs.Refused.{lent, same, Untouched, Refuses13, StartRefuses, LoadRefuses, EventRefuses, BlockRefuses, not-taken, was-taken, FramerTaken, HubTaken, BlockTaken, ReaderTaken}
+use Rattle.motikhund.specs.Numbers.{replyOf, RefusalNumber, checkedNumber, checkedValues, foundNumber, foundValues, builtNumber, hubNumber, hubValues, blockValues, outcomeNumber, startValues, isRefused, waitsNumber, readerNumber, readerValues, writtenNumber, verdictNumber, settledNumber}
+use Rattle.motikhund.specs.Promises.{PacketChecks, PacketBuilds, PacketAnswers, FramerIdle, FramerHears, HubOn, HubHears, HubHearsBlock, SenderIdle, SenderStarts, SenderHears, SenderWaits, ReaderOn, ReaderPowersUp, ReaderStarts, ReaderTimesOut, ReaderHears, ReaderValue, ReaderLocked, ReaderSaves, ReaderLoads, ReaderSwitches}
+use Rattle.motikhund.specs.Tables.{valuesIn, allAllowed, SetsTable, TakesOut, PutsInto, PutsBack}
+use Rattle.motikhund.specs.declared.tables.MkTable.{MkTable}
+use Rattle.motikhund.proofs.InPlace.{refused-keeps}
+use Rattle.table.specs.Table.{readPairs, setPairs}
+use Rattle.table.proofs.Theorems.{set-refusal}
+use Rattle.motikhund.specs.Refused.{lent, lentTable, same, sameTable, Untouched, Refuses13, RefusesBy, EventRefuses, BlockRefuses, not-taken, was-taken, FramerTaken, HubTaken, BlockTaken, ReaderTaken}
 use Rattle.motikhund.proofs.Blocks.{none-taken, BlockRefused, at-once, behind-a-byte, block-refused}
 use Rattle.motikhund.proofs.Unique.{decided}
 
@@ -306,7 +311,7 @@ reader-save-refuses k q =
     record { number = a .told ∙ rw (f, s .0) refl; untouched = one-untouched (s .1) (a .value ∙ rw f refl) }))
 
 -- `mk_reader_load`: the form is only read.
-unread-number : {r : ℕ} (o : Settled) → ((x : Refusal) → o ≡ unsettled x → x ≡ refusal.Form) → r ≡ unreadNumber o → (r ≡ 12) ⊎ (r ≡ 13)
+unread-number : {r : ℕ} (o : Settled) → ((x : Refusal) → o ≡ unsettled x → x ≡ refusal.Form) → r ≡ settledNumber o 13 → (r ≡ 12) ⊎ (r ≡ 13)
 unread-number (done v) k e = inr e
 unread-number (unsettled x) k e = inl (e ∙ ap numberOf (k x refl))
 
@@ -317,7 +322,7 @@ verdict-refused : {A : Type 0} {n : ℕ} {x : Refusal} (v : Verdict) → n ≡ v
 verdict-refused verdict.Done e q k = not-told (told-as e q) (inl (omega arith))
 verdict-refused (verdict.Refused y) e q k = k y refl
 
-pub reader-load-refuses : {control form control′ : List ℕ} {r : ℕ} {x : Refusal} → ReaderLoads control form r control′ → RefusalNumber x r → LoadRefuses r (lent control control′ ∷ []) []
+pub reader-load-refuses : {control form control′ : List ℕ} {r : ℕ} {x : Refusal} → ReaderLoads control form r control′ → RefusalNumber x r → RefusesBy 12 13 r (lent control control′ ∷ []) []
 reader-load-refuses {form = form} k q =
     by-asks (k .asks)
     (λ a. record { number = unread-number (readForm edition1 form) (λ x f. read-refusal edition1 form f) (a .0); untouched = load-untouched (a .1) })
@@ -328,6 +333,40 @@ reader-load-refuses {form = form} k q =
       number = inl (a .told ∙ rw (f, loading.refused-form (a .loads) f) refl);
       untouched = load-untouched (a .kept .control-is ∙ rw f refl);
     }))
+
+-- ---- a table that is kept as a struct
+
+settled-refused : {A : Type 0} {n : ℕ} {x : Refusal} (o : Settled) → n ≡ settledNumber o 0 → RefusalNumber x n → ((y : Refusal) → o ≡ unsettled y → A) → A
+settled-refused (done v) e q k = not-told (told-as e q) (inl (omega arith))
+settled-refused (unsettled y) e q k = k y refl
+
+table-untouched : {k k′ : MkTable} → k′ ≡ k → Untouched (lentTable k k′ ∷ []) []
+table-untouched e = record { buffers-same = one (sameTable e) none; values-zero = none }
+
+list-number : {r : ℕ} {y : Refusal} → r ≡ numberOf y → (y ≡ refusal.Data) ⊎ (y ≡ refusal.Setting) → (r ≡ 7) ⊎ (r ≡ 9)
+list-number e (inl f) = inl (e ∙ ap numberOf f)
+list-number e (inr f) = inr (e ∙ ap numberOf f)
+
+pub table-set-refuses : {k k′ : MkTable} {pairs : List ℕ} {forever : Bool} {r : ℕ} {x : Refusal} → SetsTable k pairs forever r k′ → RefusalNumber x r → RefusesBy 7 9 r (lentTable k k′ ∷ []) []
+table-set-refuses {k} {pairs = pairs} {forever} p q =
+    settled-refused (setPairs forever (readPairs pairs) (valuesIn k)) (p .told) q
+    (λ y f.
+    record {
+      number = list-number (p .told ∙ rw f refl) (set-refusal forever (readPairs pairs) (valuesIn k) f);
+      untouched = table-untouched (refused-keeps p f);
+    })
+
+pub reader-table-refuses : {control : List ℕ} {k k′ : MkTable} {r : ℕ} {x : Refusal} → TakesOut control k r k′ → RefusalNumber x r → Refuses13 r (lentTable k k′ ∷ []) []
+reader-table-refuses p q =
+    by-asks (p .asks) (λ a. record { number = a .0; untouched = table-untouched (a .1) }) (λ e a. not-told (told-as (a .0) q) (inl (omega arith)))
+
+put-back-refused : {control control′ : List ℕ} {k : MkTable} {r : ℕ} {x : Refusal} (d : Bool) → allAllowed k ≡ d → PutsInto control k r control′ → RefusalNumber x r → RefusesBy 9 13 r (lent control control′ ∷ []) []
+put-back-refused true e a q = not-told {n = 0} (told-as (a .told ∙ rw e refl) q) (inl (omega arith))
+put-back-refused false e a q = record { number = inl (a .told ∙ rw e refl); untouched = load-untouched (a .kept .control-is ∙ rw e refl) }
+
+pub reader-put-table-refuses : {control control′ : List ℕ} {k : MkTable} {r : ℕ} {x : Refusal} → PutsBack control k r control′ → RefusalNumber x r → RefusesBy 9 13 r (lent control control′ ∷ []) []
+reader-put-table-refuses {k = k} p q =
+    by-asks (p .asks) (λ a. record { number = inr (a .0); untouched = load-untouched (a .1) }) (λ e a. put-back-refused (allAllowed k) refl a q)
 
 -- ---- starts
 
@@ -347,7 +386,7 @@ start-untouched c b s v = record { buffers-same = one (same c) (one (same b) (on
 pub sender-start-refuses : {control buffer room message control′ buffer′ room′ values : List ℕ} {code r : ℕ} {x : Refusal} →
     SenderStarts control buffer room code message r control′ buffer′ room′ values →
     RefusalNumber x r →
-    StartRefuses r (lent control control′ ∷ lent buffer buffer′ ∷ lent room room′ ∷ []) values
+    RefusesBy 11 13 r (lent control control′ ∷ lent buffer buffer′ ∷ lent room room′ ∷ []) values
 sender-start-refuses {room = room} k q =
     by-asks (k .asks) (λ a. record { number = inr (a .0); untouched = start-untouched (a .1) (a .2) (a .3) (a .4) })
     (λ e a.
@@ -362,7 +401,7 @@ sender-start-refuses {room = room} k q =
 pub reader-start-refuses : {control message copy bytes control′ message′ copy′ values : List ℕ} {code r : ℕ} {x : Refusal} →
     ReaderStarts control message copy code bytes r control′ message′ copy′ values →
     RefusalNumber x r →
-    StartRefuses r (lent control control′ ∷ lent message message′ ∷ lent copy copy′ ∷ []) values
+    RefusesBy 11 13 r (lent control control′ ∷ lent message message′ ∷ lent copy copy′ ∷ []) values
 reader-start-refuses {copy = copy} k q =
     by-asks (k .asks) (λ a. record { number = inr (a .0); untouched = start-untouched (a .1) (a .2) (a .3) (a .4) })
     (λ e a.

@@ -30,6 +30,8 @@ use Rattle.reader.specs.declared.Loaded.{Loaded}
 use Rattle.motikhund.specs.Lent.{Need, atLeast, Lacking, here, there, Enough, none, more, Asks, IfNamed, KeptUnless, Kept, Made}
 use Rattle.motikhund.specs.Control.{flagByte, readerIn, permanentChanged}
 use Rattle.motikhund.specs.Numbers.{checkedNumber, checkedValues, heardNumber, foundNumber, foundValues, builtNumber, hubNumber, hubValues, blockValues, outcomeNumber, outcomeValue, startValues, isRefused, waitsNumber, readerNumber, readerValues, writtenNumber, writtenSize, verdictNumber, isUnread}
+use Rattle.motikhund.specs.Tables.{SetsTable, DefaultsTable, PowersUpTable, TakesOut, PutsBack}
+use Rattle.motikhund.specs.declared.tables.MkTable.{MkTable}
 use Rattle.motikhund.specs.Promises.{PacketChecks, PacketBuilds, PacketAnswers, FramerIdle, FramerHears, wentOn, FrontAfter, GoesOn, HubOn, HubHears, HubHearsBlock, SenderIdle, Brings, Begins, SenderStarts, SenderHears, SenderWaits, SenderHeeds, FreshReader, ReaderOn, ReaderPowersUp, ReaderStarts, ReaderTimesOut, ReaderHears, ReaderValue, ReaderLocked, ReaderSaves, ReaderLoads, ReaderSwitches}
 
 -- ---- what is lent
@@ -332,3 +334,22 @@ reader-load-unique p q =
       numbered (λ (x : Loaded). verdictNumber (x .verdict) 0) u (a .told) (b .told),
       same-start (λ (x : Loaded). isUnread (x .verdict)) (λ (x : Loaded). x .reader) u (a .kept) (b .kept),
     ))
+
+-- ---- a table that is kept as a struct
+
+pub table-set-unique : {k k₁ k₂ : MkTable} {pairs : List ℕ} {forever : Bool} {r r′ : ℕ} → SetsTable k pairs forever r k₁ → SetsTable k pairs forever r′ k₂ → (r ≡ r′) × (k₁ ≡ k₂)
+table-set-unique p q = (same (p .told) (q .told), same (p .is) (q .is))
+
+pub table-defaults-unique : {k k₁ k₂ : MkTable} → DefaultsTable k k₁ → DefaultsTable k k₂ → k₁ ≡ k₂
+table-defaults-unique p q = same (p .is) (q .is)
+
+pub table-power-up-unique : {k k₁ k₂ : MkTable} → PowersUpTable k k₁ → PowersUpTable k k₂ → k₁ ≡ k₂
+table-power-up-unique p q = same (p .is) (q .is)
+
+pub reader-table-unique : {control : List ℕ} {k k₁ k₂ : MkTable} {r r′ : ℕ} → TakesOut control k r k₁ → TakesOut control k r′ k₂ → (r ≡ r′) × (k₁ ≡ k₂)
+reader-table-unique p q = asks-unique (p .asks) (q .asks) (λ a b. (same (a .0) (b .0), same (a .1) (b .1))) (λ a b. (same (a .0) (b .0), same (a .1) (b .1)))
+
+pub reader-put-table-unique : {control control₁ control₂ : List ℕ} {k : MkTable} {r r′ : ℕ} → PutsBack control k r control₁ → PutsBack control k r′ control₂ → (r ≡ r′) × (control₁ ≡ control₂)
+reader-put-table-unique p q =
+    asks-unique (p .asks) (q .asks) (λ a b. (same (a .0) (b .0), same (a .1) (b .1)))
+    (λ a b. (same (a .told) (b .told), same (a .kept .control-is) (b .kept .control-is)))

@@ -4,3 +4,4 @@ pub mod Lent
 pub mod Numbers
 pub mod Promises
 pub mod Refused
+pub mod Tables

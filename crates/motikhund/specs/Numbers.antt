@@ -25,6 +25,7 @@ use Rattle.commands.specs.declared.Beep.{Beep}
 use Rattle.commands.specs.declared.Beep.the-variants as beep
 use Rattle.reader.specs.declared.Told.{Told as Commanded}
 use Rattle.reader.specs.declared.Told.the-variants as commanded
+use Rattle.table.specs.Table.{Outcome as Settled, done, refused}
 use Rattle.table.specs.declared.Verdict.{Verdict}
 use Rattle.table.specs.declared.Verdict.the-variants as verdict
 use Rattle.table.specs.declared.Written.{Written}
@@ -185,6 +186,10 @@ writtenSize (written.Refused r) = 0
 abbrev pub verdictNumber : Verdict → ℕ → ℕ
 verdictNumber verdict.Done taken = taken
 verdictNumber (verdict.Refused r) taken = numberOf r
+
+abbrev pub settledNumber : Settled → ℕ → ℕ
+settledNumber (done v) taken = taken
+settledNumber (refused r) taken = numberOf r
 
 abbrev pub isUnread : Verdict → Bool
 isUnread verdict.Done = false

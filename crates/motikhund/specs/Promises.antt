@@ -10,7 +10,6 @@ use lib.Dec.{eqb}
 use Rattle.packet.specs.Opcodes.{host}
 use Rattle.packet.specs.Packet.{sizeOf}
 use Rattle.packet.specs.Promises as packet
-use Rattle.packet.specs.Refusals.{numberOf}
 use Rattle.packet.specs.Sizes.{packetSize, answerSize, messageSize}
 use Rattle.packet.specs.declared.Checked.{Checked}
 use Rattle.packet.specs.declared.Built.{Built}
@@ -27,7 +26,6 @@ use Rattle.sender.specs.Promises as sending
 use Rattle.sender.specs.declared.Heard.{Heard}
 use Rattle.sender.specs.declared.Sending.{Sending}
 use Rattle.sender.specs.declared.Outcome.{Outcome}
-use Rattle.table.specs.Table.{Outcome as Settled, done, refused as unsettled}
 use Rattle.table.specs.Promises as settings
 use Rattle.table.specs.declared.Table.{Table}
 use Rattle.table.specs.declared.Written.{Written}
@@ -41,7 +39,7 @@ use Rattle.reader.specs.declared.Started.{Started}
 use Rattle.reader.specs.declared.Loaded.{Loaded}
 use Rattle.motikhund.specs.Lent.{atLeast, Asks, IfNamed, KeptUnless, Kept, Made}
 use Rattle.motikhund.specs.Control.{framerControlSize, hubControlSize, senderControlSize, readerControlSize, numberIn, numberBytes, flagIn, flagByte, framerIn, framerBytes, hubIn, hubBytes, senderIn, senderBytes, readerIn, readerBytes, switchValues, permanentChanged}
-use Rattle.motikhund.specs.Numbers.{isEvent, eventOf, heardOf, heardNumber, isReply, replyOf, noHead, checkedNumber, checkedValues, foundNumber, foundValues, builtNumber, hubNumber, hubValues, blockValues, outcomeNumber, outcomeValue, startValues, isRefused, waitsNumber, readerNumber, readerValues, writtenNumber, writtenSize, verdictNumber, isUnread}
+use Rattle.motikhund.specs.Numbers.{isEvent, eventOf, heardOf, heardNumber, isReply, replyOf, noHead, checkedNumber, checkedValues, foundNumber, foundValues, builtNumber, hubNumber, hubValues, blockValues, outcomeNumber, outcomeValue, startValues, isRefused, waitsNumber, readerNumber, readerValues, writtenNumber, writtenSize, verdictNumber, settledNumber, isUnread}
 
 -- ---- the packet: each call asks for its own room
 
@@ -291,12 +289,8 @@ pub record ReaderReads (control form : List ℕ) (r : ℕ) (control′ : List �
   pub told : r ≡ verdictNumber (loaded .verdict) 0
   pub kept : KeptUnless (isUnread (loaded .verdict)) readerIn readerBytes (loaded .reader) control control′
 
-abbrev pub unreadNumber : Settled → ℕ
-unreadNumber (done v) = 13
-unreadNumber (unsettled x) = numberOf x
-
 pub record ReaderLoads (control form : List ℕ) (r : ℕ) (control′ : List ℕ) : Type 0 where
-  pub asks : Asks (atLeast readerControlSize control ∷ []) ((r ≡ unreadNumber (readForm edition1 form)) × (control′ ≡ control)) (ReaderReads control form r control′)
+  pub asks : Asks (atLeast readerControlSize control ∷ []) ((r ≡ settledNumber (readForm edition1 form) 13) × (control′ ≡ control)) (ReaderReads control form r control′)
 
 -- What is switched on.
 pub record ReaderSwitches (control : List ℕ) (r : ℕ) (values : List ℕ) : Type 0 where

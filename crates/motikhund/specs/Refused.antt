@@ -17,14 +17,17 @@ use Rattle.reader.specs.declared.Taken.{Taken as Commanded}
 use Rattle.motikhund.specs.Lent.{Kept}
 use Rattle.motikhund.specs.Control.{framerIn, framerBytes, hubIn, hubBytes, readerIn, readerBytes}
 use Rattle.motikhund.specs.Numbers.{eventOf, noHead}
+use Rattle.motikhund.specs.declared.tables.MkTable.{MkTable}
 
 -- What was lent, before the call and after it.
 pub data Lent : Type 0 where
   lent : List ℕ → List ℕ → Lent
+  lentTable : MkTable → MkTable → Lent
 
 -- Every byte is as it was.
 pub data AsItWas : Lent → Type 0 where
   same : {before after : List ℕ} → after ≡ before → AsItWas (lent before after)
+  sameTable : {before after : MkTable} → after ≡ before → AsItWas (lentTable before after)
 
 -- Nothing lent has changed, and every value that is told beside the number is 0.
 pub record Untouched (buffers : List Lent) (values : List ℕ) : Type 0 where
@@ -36,14 +39,10 @@ pub record Refuses13 (r : ℕ) (buffers : List Lent) (values : List ℕ) : Type 
   pub number : r ≡ 13
   pub untouched : Untouched buffers values
 
--- A start: 11 or 13.
-pub record StartRefuses (r : ℕ) (buffers : List Lent) (values : List ℕ) : Type 0 where
-  pub number : (r ≡ 11) ⊎ (r ≡ 13)
-  pub untouched : Untouched buffers values
-
--- A saved set that is read: 12 or 13.
-pub record LoadRefuses (r : ℕ) (buffers : List Lent) (values : List ℕ) : Type 0 where
-  pub number : (r ≡ 12) ⊎ (r ≡ 13)
+-- One that is refused by either of two numbers: a start by 11 or 13, a saved set that is read by 12 or 13, a list for a table by 7 or 9, a table
+-- that is put into a reader by 9 or 13.
+pub record RefusesBy (a b r : ℕ) (buffers : List Lent) (values : List ℕ) : Type 0 where
+  pub number : (r ≡ a) ⊎ (r ≡ b)
   pub untouched : Untouched buffers values
 
 -- A call that takes an event: by 13 nothing has changed; by any other number only what `Otherwise` says.

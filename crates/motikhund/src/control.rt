@@ -250,7 +250,7 @@ fn values(s: &[u8]) -> [u8; PARAMETER_COUNT]
     [s[0], s[1], s[2], s[3], s[4], s[5], s[6], s[7], s[8]]
 }
 
-fn locks(s: &[u8]) -> [bool; PARAMETER_COUNT]
+pub(crate) fn locks(s: &[u8]) -> [bool; PARAMETER_COUNT]
     requires { ⌜ parameterCount ≤ length (now s) ⌝ }
     ensures { λ r. ⌜ LocksIn (now (s .entry)) r ⌝ }
 {
@@ -267,7 +267,7 @@ fn locks(s: &[u8]) -> [bool; PARAMETER_COUNT]
     ]
 }
 
-fn put_locks(locked: [bool; PARAMETER_COUNT], room: &mut [u8])
+pub(crate) fn put_locks(locked: [bool; PARAMETER_COUNT], room: &mut [u8])
     requires { ⌜ parameterCount ≤ length (now room) ⌝ }
     ensures { λ _. ⌜ PutsLocks locked (now (room .entry)) (now (room .exit)) ⌝ }
 {

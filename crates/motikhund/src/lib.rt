@@ -4,16 +4,19 @@
 mod block;
 mod control;
 mod numbers;
+mod tables;
 
 use control::FRAMER_CONTROL_SIZE;
 use control::GOING_SIZE;
 use control::HUB_CONTROL_SIZE;
 use control::READER_CONTROL_SIZE;
 use control::SENDER_CONTROL_SIZE;
+use tables::MkTable;
 ghost use Rattle.motikhund.specs.Promises.{PacketChecks, PacketBuilds, PacketAnswers, FramerIdle, FramerHears, GoesOn, HubOn, HubHears, HubHearsBlock, SenderIdle, SenderStarts, SenderHears, SenderWaits, SenderHeeds, ReaderOn, ReaderPowersUp, ReaderStarts, ReaderTimesOut, ReaderHears, ReaderValue, ReaderLocked, ReaderSaves, ReaderLoads, ReaderSwitches};
+ghost use Rattle.motikhund.specs.Tables.{SetsTable, DefaultsTable, PowersUpTable, TakesOut, PutsBack};
 
 // Lent room too small.
-const ROOM: u32 = 13;
+pub(crate) const ROOM: u32 = 13;
 // More bytes than a call takes.
 const LONG: u32 = 15;
 // The largest numbers that name an event and a reply.
@@ -552,4 +555,51 @@ pub extern "C" fn mk_reader_switches(control: &[u8], values: &mut [usize; 4]) ->
     let device = before.device;
     control::switches(device, values);
     0
+}
+
+// A reader's table, taken out: 0, or 13 with the struct left alone.
+#[no_mangle]
+pub extern "C" fn mk_reader_table(control: &[u8], table: &mut MkTable) -> u32
+    ensures { λ r. ⌜ TakesOut (now (control .entry)) (now (table .entry)) r (now (table .exit)) ⌝ }
+{
+    let altered = tables::taken_out(control, *table);
+    *table = altered.table;
+    altered.told
+}
+
+// A table put into a reader: 0. 13, then 9 for a value that its parameter does not take, and every control byte stays. The last accepted
+// packet is forgotten: its repeat, answered from memory, would claim a change that this table may have undone.
+#[no_mangle]
+pub extern "C" fn mk_reader_put_table(control: &mut [u8], table: &MkTable) -> u32
+    ensures { λ r. ⌜ PutsBack (now (control .entry)) (now (table .entry)) r (now (control .exit)) ⌝ }
+{
+    tables::put_back(control, *table)
+}
+
+// ---- a parameter table that a board keeps
+
+// Sets a list of pairs, number and value, where the table stands: 0, or 7 or 9 with not a byte of it changed.
+#[no_mangle]
+pub extern "C" fn mk_table_set(table: &mut MkTable, pairs: &[u8], permanent: bool) -> u32
+    ensures { λ r. ⌜ SetsTable (now (table .entry)) (now (pairs .entry)) permanent r (now (table .exit)) ⌝ }
+{
+    let altered = tables::set(*table, pairs, permanent);
+    *table = altered.table;
+    altered.told
+}
+
+// Every parameter that is not locked to its house default, present and permanent.
+#[no_mangle]
+pub extern "C" fn mk_table_set_defaults(table: &mut MkTable)
+    ensures { λ _. ⌜ DefaultsTable (now (table .entry)) (now (table .exit)) ⌝ }
+{
+    *table = tables::set_defaults(*table);
+}
+
+// Permanent values become present ones.
+#[no_mangle]
+pub extern "C" fn mk_table_power_up(table: &mut MkTable)
+    ensures { λ _. ⌜ PowersUpTable (now (table .entry)) (now (table .exit)) ⌝ }
+{
+    *table = tables::power_up(*table);
 }

@@ -54,7 +54,7 @@ pub(crate) fn reply(n: u32) -> Reply
 
 // ---- what comes out
 
-fn refusal(why: Refusal) -> u32
+pub(crate) fn refusal(why: Refusal) -> u32
     ensures { λ r. ⌜ RefusalNumber why r ⌝ }
 {
     packet::number(why) as u32

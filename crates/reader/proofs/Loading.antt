@@ -24,7 +24,7 @@ use Rattle.commands.proofs.Outcomes.{Does}
 use Rattle.commands.proofs.Theorems.{does-allowed, does-keeps}
 use Rattle.reader.specs.Reader.{ReaderState, Output, refused, senderHears, withCore, startMessage, timeOut, powerUpReader, withSet, settled, loadSet}
 use Rattle.reader.specs.Moments.{Moment, hears, starts, times-out, powers-up, afterOne, afterAll}
-use Rattle.reader.specs.Promises.{lastAnswerOf, coreOf, stateOf, loadedOf, Loads, WithTable}
+use Rattle.reader.specs.Promises.{lastAnswerOf, coreOf, stateOf, withTable, loadedOf, Loads, WithTable}
 use Rattle.reader.specs.declared.Reader.{Reader}
 use Rattle.reader.specs.declared.Loaded.{Loaded}
 use Rattle.reader.proofs.Theorems.{event-values}
@@ -50,10 +50,15 @@ module _ {reader : Reader} {form : List ℕ} {r : Changed} (k : saved.Loads (rea
   pub load-refused : {x : Refusal} → r .verdict ≡ verdict.Refused x → Loads reader form (record { reader = reader; verdict = verdict.Refused x })
   load-refused e = record { is = refused-by {set = r .table} (reader .device .table) (readForm edition1 form) (rw (← e) (k .is)) }
 
--- Reading a set is that of the whole end, whatever stands in the buffers.
+-- Another table is that of the whole end, whatever stands in the buffers.
+pub with-table-state : (reader : Reader) (t : Table) (line answers message : List ℕ) → stateOf (withTable reader t) line answers message ≡ withSet (stateOf reader line answers message) (valuesOf t)
+unfolding withSet stateOf coreOf lastAnswerOf lineIn keptIn halfOf lastOf placeOf unmarked
+with-table-state reader t line answers message = refl
+
+-- And so is reading a set.
 settled-state : (reader : Reader) (line answers message : List ℕ) (o : Settled) → stateOf (loadedOf reader o .reader) line answers message ≡ settled (stateOf reader line answers message) o .next
-unfolding loadedOf settled withSet stateOf coreOf lastAnswerOf lineIn keptIn halfOf lastOf placeOf unmarked
-settled-state reader line answers message (done v) = refl
+unfolding loadedOf settled
+settled-state reader line answers message (done v) = with-table-state reader (tableOf v) line answers message
 settled-state reader line answers message (unsettled x) = refl
 
 pub loaded-state : {reader : Reader} {form : List ℕ} {r : Loaded} (line answers message : List ℕ) → Loads reader form r →

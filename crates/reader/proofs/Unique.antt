@@ -5,7 +5,7 @@ use mathlib.Core.List.{List}
 use Rattle.framer.specs.declared.Event.{Event}
 use Rattle.sender.proofs.Unique as sending
 use Rattle.table.specs.declared.Table.{Table}
-use Rattle.reader.specs.Promises.{SwitchedOn, PowersUp, Loads, startedOf, Starts, TimesOut, Hears}
+use Rattle.reader.specs.Promises.{SwitchedOn, PowersUp, Loads, WithTable, startedOf, Starts, TimesOut, Hears}
 use Rattle.reader.specs.declared.Reader.{Reader}
 use Rattle.reader.specs.declared.Loaded.{Loaded}
 use Rattle.reader.specs.declared.Started.{Started}
@@ -19,6 +19,9 @@ power-up-unique p q = p .is ∙ sym (q .is)
 
 pub load-unique : {reader : Reader} {form : List ℕ} {r r′ : Loaded} → Loads reader form r → Loads reader form r′ → r ≡ r′
 load-unique p q = p .is ∙ sym (q .is)
+
+pub with-table-unique : {reader r r′ : Reader} {t : Table} → WithTable reader t r → WithTable reader t r′ → r ≡ r′
+with-table-unique p q = p .is ∙ sym (q .is)
 
 pub start-unique : {reader : Reader} {message copy bytes message₁ copy₁ message₂ copy₂ : List ℕ} {code : ℕ} {r r′ : Started} →
     Starts reader message copy code bytes r message₁ copy₁ → Starts reader message copy code bytes r′ message₂ copy₂ →

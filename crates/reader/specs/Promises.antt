@@ -132,7 +132,7 @@ pub record SwitchedOn (t : Table) (r : Reader) : Type 0 where
 pub record PowersUp (reader r : Reader) : Type 0 where
   pub is : r ≡ onControl (powerUp (valuesOf (reader .device .table)))
 
--- The control value with a set read into it: the line's framer is left alone, and no packet is the last accepted one.
+-- The control value with another table: the line's framer is left alone, and no packet is the last accepted one.
 abbrev pub withTable : Reader → Table → Reader
 withTable r t =
     record {

@@ -151,7 +151,8 @@ switchedOn v = record { line = hearing []; core = record { device = fresh v; las
 unfoldable pub powerUpReader : ReaderState → ReaderState
 powerUpReader r = switchedOn (powerUp (r .core .device .values))
 
--- A saved set replaces values and locks, and the last accepted packet is forgotten; nothing else changes. Bytes that are no form change nothing.
+-- A saved set (§21), or a table that is put into the reader (§23), replaces values and locks, and the last accepted packet is forgotten; nothing else changes.
+-- Bytes that are no form change nothing.
 unfoldable pub withSet : ReaderState → Values → ReaderState
 withSet r v =
     record {

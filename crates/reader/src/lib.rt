@@ -82,8 +82,8 @@ struct Core {
 }
 
 struct Stepped {
-    core: Core,
     told: Told,
+    core: Core,
     answer: usize,
     outcome: Outcome,
 }
@@ -138,7 +138,8 @@ pub fn load(reader: Reader, form: &[u8]) -> Loaded
     }
 }
 
-fn with_table(reader: Reader, table: Table) -> Reader
+// The reader with another table: values and locks are replaced, and the last accepted packet is forgotten.
+pub fn with_table(reader: Reader, table: Table) -> Reader
     ensures { λ r. ⌜ WithTable reader table r ⌝ }
 {
     let line = reader.line;
@@ -382,7 +383,9 @@ fn to_sender(core: Core, body: &[u8], message: &[u8; MESSAGE_SIZE], copy: &mut [
     ensures { λ r. ⌜ ToSender core (now (body .entry)) (now (message .entry)) (now (copy .entry)) r (now (copy .exit)) ⌝ }
 {
     let heard = sender::heed(HOST, body[1], body[2], body[3], packet::data_part(body));
-    let sending = sender::hear(core.sender, message, copy, heard);
+    // A copy of the sender alone: the whole core would stand in memory for the call.
+    let before = core.sender;
+    let sending = sender::hear(before, message, copy, heard);
     let sender = sending.sender;
     let outcome = sending.outcome;
     let device = core.device;

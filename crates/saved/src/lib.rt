@@ -198,7 +198,8 @@ fn exact(set: Table, form: &[u8]) -> bool
     false
 }
 
-fn all_allowed(values: [u8; PARAMETER_COUNT]) -> bool
+// Whether every value is one that its parameter takes.
+pub fn all_allowed(values: [u8; PARAMETER_COUNT]) -> bool
     ensures { λ r. ⌜ AllAllowed values r ⌝ }
 {
     let mut i = 0;

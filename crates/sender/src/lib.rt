@@ -25,13 +25,13 @@ const RESEND_LIMIT: usize = 2;
 // The sender's control value. `at` is where the present piece starts in the message buffer, `size` how many bytes it has;
 // `resends` counts those of the present packet, `copies` the marked copies of the message.
 pub struct Sender {
-    pub out: bool,
-    pub code: u8,
     pub length: usize,
     pub at: usize,
     pub size: usize,
     pub resends: usize,
     pub copies: usize,
+    pub out: bool,
+    pub code: u8,
     // nothing is out, and the message before failed
     pub failed: bool,
     // nothing is out, and the message before was delivered: its last piece still stands in the buffer

@@ -4,6 +4,7 @@ use Prim.Native.Nat.{ℕ, zero, suc, _+_, _*_, _≤_, _<_}
 use mathlib.Core.Path.{_≡_, refl, sym, _∙_}
 use mathlib.Core.Bool.{Bool, true, false, not}
 use mathlib.Core.List.{List, [], _∷_, _++_}
+use mathlib.Core.Logic.{_⊎_, inl, inr}
 use native.Mathlib.Omega.{arith}
 use lib.Dec.{eqb, ltb}
 use lib.ListN.{length, getD, set, replicate, length-set, length-replicate, getD-replicate}
@@ -12,7 +13,7 @@ use borrow.Author.Tests.{eq-eqb, ne-eqb, eqb-true, eqb-false, ltb-true, not-true
 use Rattle.words.specs.Lists.{pick, both, either}
 use Rattle.words.proofs.Lists.{both-left, both-right, both-false, never, either-true}
 use Rattle.packet.specs.declared.Refusal.{Refusal}
-use Rattle.packet.specs.declared.Refusal.the-variants.{Setting, Room}
+use Rattle.packet.specs.declared.Refusal.the-variants.{Data, Setting, Room}
 use Rattle.table.specs.Rows.{parameterCount, pairsSize, rows, placeIn, placeOf, supported, triggerAllowed, rangeAllowed, rowAllows, allowed, defaultsOf}
 use Rattle.table.specs.Table.{Values, Pair, Reading, wrongLength, pairs, lockedIn, settable, allSettable, setAll, changed, Outcome, done, refused, setPairs, defaults, restored, setDefaults, powerUp, member, askedFor, numbersOf, answeredNumbers, answerData}
 use Rattle.table.specs.Promises.{Answers, valuesOf, changedOf, marks}
@@ -201,18 +202,29 @@ changed-allowed false ps t k a = record { present = set-all-allowed (t .locked) 
 -- An accepted list: every pair may be set, and the table is the one with all of them set.
 pub record Accepted (forever : Bool) (reading : Reading) (t t′ : Values) : Type 0 where
   pub listed : List Pair
+  pub read : reading ≡ pairs listed
   pub settable : allSettable (t .locked) listed ≡ true
   pub is : t′ ≡ changed forever listed t
 
 accepted-by : (forever : Bool) (ps : List Pair) (t t′ : Values) (d : Bool) → allSettable (t .locked) ps ≡ d →
     pick d (done (changed forever ps t)) (refused Setting) ≡ done t′ → Accepted forever (pairs ps) t t′
-accepted-by forever ps t t′ true a e = let z : changed forever ps t ≡ t′ = cc in record { listed = ps; settable = a; is = sym z }
+accepted-by forever ps t t′ true a e = let z : changed forever ps t ≡ t′ = cc in record { listed = ps; read = refl; settable = a; is = sym z }
 accepted-by forever ps t t′ false a e = never (cc)
 
 pub accepted : (forever : Bool) (reading : Reading) (t t′ : Values) → setPairs forever reading t ≡ done t′ → Accepted forever reading t t′
 unfolding setPairs
 accepted forever wrongLength t t′ e = never (cc)
 accepted forever (pairs ps) t t′ e = accepted-by forever ps t t′ (allSettable (t .locked) ps) refl e
+
+-- A list is refused by 7 or 9.
+refusal-by : (d : Bool) (v : Values) {x : Refusal} → pick d (done v) (refused Setting) ≡ refused x → x ≡ Setting
+refusal-by true v e = never (cc)
+refusal-by false v e = cc
+
+pub set-refusal : (forever : Bool) (reading : Reading) (t : Values) {x : Refusal} → setPairs forever reading t ≡ refused x → (x ≡ Data) ⊎ (x ≡ Setting)
+unfolding setPairs
+set-refusal forever wrongLength t e = inl (cc)
+set-refusal forever (pairs ps) t e = inr (refusal-by (allSettable (t .locked) ps) (changed forever ps t) e)
 
 -- An accepted list, PARAM_DEFAULTS and power-up keep every value of a table allowed.
 pub accepted-allowed : (forever : Bool) (reading : Reading) (t t′ : Values) → AllAllowed t → setPairs forever reading t ≡ done t′ → AllAllowed t′

@@ -10,6 +10,7 @@ use Rattle.packet.specs.declared.Refusal.the-variants as refusal
 use Rattle.table.specs.Rows.{parameterCount, pairsSize, rows, placeOf, triggerAllowed, rowAllows, allowed, defaultsOf}
 use Rattle.table.specs.Table.{Values, Pair, Reading, wrongLength, pairs, readPairs, sendLengthAllowed, requestLengthAllowed, lockedIn, settable, allSettable, setAll, changed, Outcome, done, refused, setPairs, defaults, restored, setDefaults, powerUp, valueOf, member, askedFor, numbersOf, pairBytes, answerData}
 use Rattle.table.specs.declared.Table.{Table}
+use Rattle.table.specs.declared.Verdict.{Verdict}
 use Rattle.table.specs.declared.Verdict.the-variants as verdict
 use Rattle.table.specs.declared.Changed.{Changed}
 use Rattle.table.specs.declared.Written.{Written}
@@ -85,11 +86,20 @@ pairsOf (pairs ps) = ps
 pub record Even (bytes : List ℕ) : Type 0 where
   pub is : length bytes % 2 ≡ 0
 
-pub record Settable (t : Table) (number value : ℕ) (r : Bool) : Type 0 where
-  pub is : r ≡ settable (t .locked) (record { number = number; value = value })
+pub record Settable (locked : List Bool) (number value : ℕ) (r : Bool) : Type 0 where
+  pub is : r ≡ settable locked (record { number = number; value = value })
 
-pub record Judges (t : Table) (bytes : List ℕ) (r : Bool) : Type 0 where
-  pub is : r ≡ allSettable (t .locked) (pairsOf (readPairs bytes))
+pub record AllSettable (locked : List Bool) (bytes : List ℕ) (r : Bool) : Type 0 where
+  pub is : r ≡ allSettable locked (pairsOf (readPairs bytes))
+
+-- Whether a list may be set, whatever the values are.
+unfoldable pub judgedOf : List Bool → Reading → Verdict
+judgedOf locked wrongLength = verdict.Refused refusal.Data
+judgedOf locked (pairs ps) = pick (allSettable locked ps) verdict.Done (verdict.Refused refusal.Setting)
+
+pub record Judges (locked : List Bool) (bytes : List ℕ) (r : Verdict) : Type 0 where
+  pub is : r ≡ judgedOf locked (readPairs bytes)
+  pub even : r ≡ verdict.Done → Even bytes
 
 -- A value for each parameter.
 pub record Full (values : List ℕ) : Type 0 where
@@ -98,8 +108,8 @@ pub record Full (values : List ℕ) : Type 0 where
 pub record Puts (values : List ℕ) (number value : ℕ) (r : List ℕ) : Type 0 where
   pub is : r ≡ set values (placeOf number) value
 
-pub record PutsAll (values bytes r : List ℕ) : Type 0 where
-  pub is : r ≡ setAll (pairsOf (readPairs bytes)) values
+pub record PutsIf (asked : Bool) (values : List ℕ) (number value : ℕ) (r : List ℕ) : Type 0 where
+  pub is : r ≡ pick asked (set values (placeOf number) value) values
 
 pub record Changes (t : Table) (bytes : List ℕ) (forever : Bool) (r : Changed) : Type 0 where
   pub is : r ≡ record { table = tableOf (changed forever (pairsOf (readPairs bytes)) (valuesOf t)); verdict = verdict.Done }

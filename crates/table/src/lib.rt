@@ -4,7 +4,7 @@ ghost use Prim.Native.Nat.{_+_, _*_, _≤_, _<_};
 ghost use mathlib.Core.Path.{_≡_};
 ghost use lib.ListN.{length};
 ghost use Rattle.table.specs.Rows.{parameterCount};
-ghost use Rattle.table.specs.Promises.{Defaults, SetsDefaults, PowerUp, Sets, SendLengthAllowed, RequestLengthAllowed, Value, Locked, Allowed, Answers, Restores, UnlessLocked, Place, TriggerAllowed, RowAllows, Even, Settable, Judges, Full, Puts, PutsAll, Changes, AsksAll, AllPairs, AskedPairs, Fits, Asks};
+ghost use Rattle.table.specs.Promises.{Defaults, SetsDefaults, PowerUp, Sets, SendLengthAllowed, RequestLengthAllowed, Value, Locked, Allowed, Answers, Restores, UnlessLocked, Place, TriggerAllowed, RowAllows, Even, Settable, AllSettable, Judges, Full, Puts, PutsIf, Changes, AsksAll, AllPairs, AskedPairs, Fits, Asks};
 
 // How many parameters there are.
 pub const PARAMETER_COUNT: usize = 9;
@@ -24,11 +24,11 @@ pub const SETTINGS: [[u8; 4]; PARAMETER_COUNT] = [
     [0xEE, 0, 1, 1],
 ];
 
-// Present and permanent values and which of them are locked, in the order of the settings.
+// Which parameters are locked, and their present and permanent values, in the order of the settings.
 pub struct Table {
+    pub locked: [bool; PARAMETER_COUNT],
     pub present: [u8; PARAMETER_COUNT],
     pub permanent: [u8; PARAMETER_COUNT],
-    pub locked: [bool; PARAMETER_COUNT],
 }
 
 // What became of a list of settings.
@@ -112,19 +112,27 @@ pub fn power_up(table: Table) -> Table
 pub fn set(table: Table, pairs: &[u8], permanent: bool) -> Changed
     ensures { λ r. ⌜ Sets table (now (pairs .entry)) permanent r ⌝ }
 {
-    if pairs.len() % 2 != 0 {
-        return Changed {
+    let locked = table.locked;
+    match judged(locked, pairs) {
+        Verdict::Done => change(table, pairs, permanent),
+        Verdict::Refused(refusal) => Changed {
             table,
-            verdict: Verdict::Refused(Refusal::Data),
-        };
+            verdict: Verdict::Refused(refusal),
+        },
     }
-    if all_settable(table, pairs) {
-        return change(table, pairs, permanent);
+}
+
+// Whether a list may be set. It takes the locks alone, so that no table is moved for it.
+fn judged(locked: [bool; PARAMETER_COUNT], pairs: &[u8]) -> Verdict
+    ensures { λ r. ⌜ Judges locked (now (pairs .entry)) r ⌝ }
+{
+    if pairs.len() % 2 != 0 {
+        return Verdict::Refused(Refusal::Data);
     }
-    Changed {
-        table,
-        verdict: Verdict::Refused(Refusal::Setting),
+    if all_settable(locked, pairs) {
+        return Verdict::Done;
     }
+    Verdict::Refused(Refusal::Setting)
 }
 
 // Whether the data of a PARAM_SEND is a beep byte and pairs behind it.
@@ -149,25 +157,19 @@ fn change(table: Table, pairs: &[u8], permanent: bool) -> Changed
     requires { ⌜ Even (now pairs) ⌝ }
     ensures { λ r. ⌜ Changes table (now (pairs .entry)) permanent r ⌝ }
 {
-    let values = table.present;
+    let mut present = table.present;
+    let mut lasting = table.permanent;
     let locked = table.locked;
-    let present = put_all(values, pairs);
-    if permanent {
-        let lasting = table.permanent;
-        return Changed {
-            table: Table {
-                present,
-                permanent: put_all(lasting, pairs),
-                locked,
-            },
-            verdict: Verdict::Done,
-        };
+    let mut i = 0;
+    while i < pairs.len() {
+        put(&mut present, pairs[i], pairs[i + 1]);
+        put_if(permanent, &mut lasting, pairs[i], pairs[i + 1]);
+        i += 2;
     }
-    let kept = table.permanent;
     Changed {
         table: Table {
             present,
-            permanent: kept,
+            permanent: lasting,
             locked,
         },
         verdict: Verdict::Done,
@@ -283,13 +285,13 @@ fn ask(
 }
 
 // Whether every pair may be set.
-fn all_settable(table: Table, pairs: &[u8]) -> bool
+fn all_settable(locked: [bool; PARAMETER_COUNT], pairs: &[u8]) -> bool
     requires { ⌜ Even (now pairs) ⌝ }
-    ensures { λ r. ⌜ Judges table (now (pairs .entry)) r ⌝ }
+    ensures { λ r. ⌜ AllSettable locked (now (pairs .entry)) r ⌝ }
 {
     let mut i = 0;
     while i < pairs.len() {
-        if settable(table, pairs[i], pairs[i + 1]) {
+        if settable(locked, pairs[i], pairs[i + 1]) {
             i += 2;
         } else {
             return false; // the whole list
@@ -299,13 +301,12 @@ fn all_settable(table: Table, pairs: &[u8]) -> bool
 }
 
 // Whether the parameter is not locked and takes the value.
-fn settable(table: Table, number: u8, value: u8) -> bool
-    ensures { λ r. ⌜ Settable table number value r ⌝ }
+fn settable(locked: [bool; PARAMETER_COUNT], number: u8, value: u8) -> bool
+    ensures { λ r. ⌜ Settable locked number value r ⌝ }
 {
     let at = place(number);
-    let locks = table.locked;
     if at < PARAMETER_COUNT {
-        if locks[at] {
+        if locked[at] {
             return false;
         }
         return row_allows(at, value);
@@ -313,20 +314,7 @@ fn settable(table: Table, number: u8, value: u8) -> bool
     false
 }
 
-// The values with every pair set; of a number named twice the later value holds.
-fn put_all(values: [u8; PARAMETER_COUNT], pairs: &[u8]) -> [u8; PARAMETER_COUNT]
-    requires { ⌜ Even (now pairs) ⌝ }
-    ensures { λ r. ⌜ PutsAll values (now (pairs .entry)) r ⌝ }
-{
-    let mut next = values;
-    let mut i = 0;
-    while i < pairs.len() {
-        put(&mut next, pairs[i], pairs[i + 1]);
-        i += 2;
-    }
-    next
-}
-
+// One pair; of a number named twice the later value holds.
 fn put(values: &mut [u8; PARAMETER_COUNT], number: u8, value: u8)
     requires { ⌜ Full (now values) ⌝ }
     ensures { λ _. ⌜ Puts (now (values .entry)) number value (now (values .exit)) ⌝ }
@@ -334,6 +322,15 @@ fn put(values: &mut [u8; PARAMETER_COUNT], number: u8, value: u8)
     let at = place(number);
     if at < PARAMETER_COUNT {
         values[at] = value;
+    }
+}
+
+fn put_if(asked: bool, values: &mut [u8; PARAMETER_COUNT], number: u8, value: u8)
+    requires { ⌜ Full (now values) ⌝ }
+    ensures { λ _. ⌜ PutsIf asked (now (values .entry)) number value (now (values .exit)) ⌝ }
+{
+    if asked {
+        put(values, number, value);
     }
 }
 

@@ -8,7 +8,7 @@ use crate::lent::sender::{outcome, started};
 use crate::numbers::{byte, done, front, told};
 use crate::reader::{Beep, ReaderTold, Switches};
 use crate::sender::Outcome;
-use crate::{calls, Event, Refusal};
+use crate::{calls, Event, Refusal, Table};
 
 /// A reader switched on with the house defaults. A message gap is due before the first message, though its start says
 /// none. Its control value has [`READER_CONTROL_SIZE`].
@@ -124,4 +124,18 @@ pub fn switches(control: &[u8]) -> Result<Switches, Refusal> {
     let (number, values) = calls::reader_switches(control);
     done(number)?;
     Ok(Switches::from_values(values))
+}
+
+/// The reader's table, taken out; the reader keeps its own. Each lock is 1 or 0.
+pub fn table(control: &[u8]) -> Result<Table, Refusal> {
+    let mut table = Table::new();
+    done(calls::reader_table(control, &mut table))?;
+    Ok(table)
+}
+
+/// Puts a table into the reader: values and locks become those of the table, and the last accepted packet is forgotten;
+/// all else stays, what a start says of a gap too. A control value that is too small is refusal 13, before 9 for a
+/// value, present or permanent, that its parameter does not take; then every control byte stays.
+pub fn put_table(control: &mut [u8], table: &Table) -> Result<(), Refusal> {
+    done(calls::reader_put_table(control, table))
 }

@@ -6,7 +6,7 @@ use motikhund::packet::Head;
 use motikhund::{raw, BlockTold, Event, Found, HubBlock, HubTold, Outcome, ReaderTold, Refusal};
 
 use crate::dice::Dice;
-use crate::fenced::Fenced;
+use crate::fenced::{Fenced, TABLE_SIZE};
 
 /// What no call leaves in the values.
 const JUNK: usize = usize::MAX;
@@ -210,7 +210,35 @@ pub fn reader_switches([control, ..]: &mut Reader) -> (u32, [usize; SWITCH_VALUE
     (told, values)
 }
 
+pub fn reader_table(control: &mut Fenced, table: &mut Fenced) -> u32 {
+    let (control, table) = (control.lent(), table.array::<TABLE_SIZE>());
+    unsafe { raw::mk_reader_table(control.as_ptr(), control.len(), table.as_mut_ptr().cast()) }
+}
+
+pub fn reader_put_table(control: &mut Fenced, table: &mut Fenced) -> u32 {
+    let (control, table) = (control.lent(), table.array::<TABLE_SIZE>());
+    unsafe { raw::mk_reader_put_table(control.as_mut_ptr(), control.len(), table.as_ptr().cast()) }
+}
+
+pub fn table_set(table: &mut Fenced, pairs: &[u8], permanent: bool) -> u32 {
+    let table = table.array::<TABLE_SIZE>().as_mut_ptr().cast();
+    unsafe { raw::mk_table_set(table, pairs.as_ptr(), pairs.len(), permanent) }
+}
+
+pub fn table_set_defaults(table: &mut Fenced) {
+    unsafe { raw::mk_table_set_defaults(table.array::<TABLE_SIZE>().as_mut_ptr().cast()) }
+}
+
+pub fn table_power_up(table: &mut Fenced) {
+    unsafe { raw::mk_table_power_up(table.array::<TABLE_SIZE>().as_mut_ptr().cast()) }
+}
+
 // ---- the same numbers, of what the safe calls told
+
+/// Of a call that has done what it was asked, or refused it.
+pub fn of_done(done: Result<(), Refusal>) -> u32 {
+    done.map_or_else(Refusal::number, |()| 0)
+}
 
 fn of_head(head: Head) -> [usize; 4] {
     [head.length, head.opcode.into(), head.source.into(), head.status.into()]

@@ -1,13 +1,14 @@
 //! Every lent byte after a refusal, with garbage of several kinds around what it needs. On 11 to 15 none changes, and
-//! the values told are 0 (12 is in `sets.rs`). On 1 to 10 these change and no other: the answer at the front of its
-//! room, the byte that came in its place in the line, and the control value as the rules have it (docs/PROTOCOL.md §6).
+//! the values told are 0 (12 is in `sets.rs`), nor does one on 7 and 9 of a table (`tables.rs`). On 1 to 10 of an event
+//! these change and no other: the answer at the front of its room, the byte that came in its place in the line, and the
+//! control value as the rules have it (docs/PROTOCOL.md §6).
 
 use motikhund::constants::*;
 use motikhund::Refusal;
 
 use crate::bare;
 use crate::dice::Dice;
-use crate::fenced::{Fenced, Size, FILLS, FRAMER, HUB, READER, SENDER};
+use crate::fenced::{Fenced, Size, FILLS, FRAMER, HUB, READER, SENDER, TABLE_SIZE};
 use crate::notation::{bytes, events, nak};
 use crate::refusals::{Case, HUB_CASES, READER_CASES};
 use crate::rooms::lends;
@@ -337,6 +338,9 @@ fn of_short_rooms() {
     lends(READER, (ROOM, [0; READER_VALUES]), |dice, lent| bare::reader_hear(lent, event(dice)));
     let saving = [Size::Room(READER_CONTROL_SIZE), Size::Room(SET_SIZE)];
     lends(saving, (ROOM, 0), |_, [control, room]| bare::reader_save(control, room));
+    let tables = [Size::Room(READER_CONTROL_SIZE), Size::Array(TABLE_SIZE)];
+    lends(tables, ROOM, |_, [control, table]| bare::reader_table(control, table));
+    lends(tables, ROOM, |_, [control, table]| bare::reader_put_table(control, table));
     // A start and a time-out ask for the control value and the copy room, the last three for the control value alone.
     let asks = |places: &[usize]| {
         let mut sizes = READER.map(|size| Size::Array(size.least()));

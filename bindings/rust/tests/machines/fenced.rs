@@ -1,8 +1,8 @@
 //! A lent buffer between two fences, by which a write past its ends is seen.
 
 use motikhund::constants::{
-    FRAMER_CONTROL_SIZE, HUB_ANSWER_SIZE, HUB_CONTROL_SIZE, LINE_SIZE, MESSAGE_SIZE, PACKET_SIZE, READER_ANSWER_SIZE,
-    READER_CONTROL_SIZE, SENDER_CONTROL_SIZE,
+    FRAMER_CONTROL_SIZE, HUB_ANSWER_SIZE, HUB_CONTROL_SIZE, LINE_SIZE, MESSAGE_SIZE, PACKET_SIZE, PLACES,
+    READER_ANSWER_SIZE, READER_CONTROL_SIZE, SENDER_CONTROL_SIZE,
 };
 
 use crate::dice::Dice;
@@ -16,6 +16,9 @@ pub enum Size {
     Array(usize),
 }
 use Size::{Array, Room};
+
+/// A table's bytes.
+pub const TABLE_SIZE: usize = 3 * PLACES;
 
 /// What each machine is lent at an event, the sender at a start too.
 pub const FRAMER: [Size; 2] = [Room(FRAMER_CONTROL_SIZE), Room(PACKET_SIZE)];

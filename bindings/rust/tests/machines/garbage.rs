@@ -9,14 +9,15 @@ use motikhund::constants::{
     READER_CONTROL_SIZE, SENDER_CONTROL_SIZE, SET_SIZE,
 };
 use motikhund::lent::{framer, hub, reader, sender};
-use motikhund::{packet, Heard, Refusal, Reply};
+use motikhund::{packet, Heard, Reply};
 
 use crate::bare;
 use crate::dice::Dice;
 use crate::every_byte::{due_flags, HUB_FLAGS, HUB_NUMBERS, READERS_SENDER, READER_FLAGS};
-use crate::fenced::{Fenced, Size, FRAMER, HUB, READER, SENDER};
+use crate::fenced::{Fenced, Size, FRAMER, HUB, READER, SENDER, TABLE_SIZE};
 use crate::notation;
 use crate::streams::{Side, Stream};
+use crate::tables::table_in;
 
 const RUNS: u64 = 100;
 const EVENTS: usize = 1_000;
@@ -232,6 +233,7 @@ fn the_reader() {
     let mut brought = BTreeSet::new();
     let mut gaps = BTreeSet::new();
     let mut sets = BTreeSet::new();
+    let mut tables = BTreeSet::new();
     runs(|dice| {
         let mut stream = Stream::new(Side::Reader);
         let mut twins = Twins::new(dice, READER);
@@ -278,8 +280,19 @@ fn the_reader() {
                     form[place] ^= if dice.chance(25) { 1 + dice.byte() % 255 } else { 0 };
                     let told = bare::reader_load(&mut twins.bare[0], &form);
                     let loaded = reader::load(control.lent(), &form);
-                    assert_eq!(loaded.map_or_else(Refusal::number, |()| 0), told);
+                    assert_eq!(bare::of_done(loaded), told);
                     sets.insert(told);
+                }
+                4 => {
+                    // The table taken out, and put back as it is or with a byte changed.
+                    let mut room = Fenced::new(dice, TABLE_SIZE);
+                    assert_eq!(bare::reader_table(&mut twins.bare[0], &mut room), 0);
+                    assert_eq!(reader::table(control.lent()), Ok(table_in(&mut room)));
+                    room.lent()[dice.below(TABLE_SIZE)] ^= if dice.chance(25) { 1 + dice.byte() % 255 } else { 0 };
+                    let told = bare::reader_put_table(&mut twins.bare[0], &mut room);
+                    assert_eq!(bare::of_done(reader::put_table(control.lent(), &table_in(&mut room))), told);
+                    assert!(room.fences_stand());
+                    tables.insert(told);
                 }
                 _ => {
                     let event = stream.next(dice);
@@ -306,4 +319,5 @@ fn the_reader() {
     assert_eq!(brought, [0, 11, 120, 122].into());
     assert_eq!(gaps, [(11, 0), (120, 0), (120, 1)].into());
     assert_eq!(sets, [0, 12].into());
+    assert_eq!(tables, [0, 9].into());
 }

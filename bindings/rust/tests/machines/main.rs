@@ -22,3 +22,4 @@ mod rooms;
 mod sets;
 mod story;
 mod streams;
+mod tables;

@@ -10,6 +10,8 @@ const HEADER: &str = include_str!("../../../c/motikhund.h");
 const RATTLE: &str = include_str!("../../../../crates/motikhund/src/lib.rt");
 const RAW: &str = include_str!("../../src/raw.rs");
 const PACKET: &str = include_str!("../../src/packet.rs");
+const TABLE: &str = include_str!("../../src/table.rs");
+const TABLES: &str = include_str!("../../../../crates/motikhund/src/tables.rt");
 
 /// Each machine: its name in C, its type in Rust, where that stands, and where its lent form does.
 const MACHINES: [(&str, &str, &str, &str); 4] = [
@@ -57,8 +59,10 @@ fn in_rattle(parameter: &str) -> Vec<String> {
     [Some(name.to_string()), slice.then(|| format!("{name}_len"))].into_iter().flatten().collect()
 }
 
+/// The struct's name among the parameters is no call's.
 fn header_calls() -> BTreeMap<String, Vec<String>> {
-    calls(&part(HEADER, "// ---- the calls of the archive", "// ---- machines with their buffers"), in_c)
+    let declared = part(HEADER, "// ---- the calls of the archive", "// ---- machines with their buffers");
+    calls(&declared.replace("mk_table *", "*"), in_c)
 }
 
 #[test]
@@ -100,16 +104,48 @@ fn of_the_machines() {
         only_rust.extend(rust.difference(&c).map(|name| format!("{of}::{name}")));
     }
     // What C reads in the struct or gets by a raw call.
-    let of_reader = ["control", "load", "locked", "powered_up", "save"].map(|name| format!("Reader::{name}"));
+    let names = ["control", "load", "locked", "powered_up", "put_table", "save", "table"];
+    let of_reader = names.map(|name| format!("Reader::{name}"));
     assert_eq!(only_rust, [&["Sender::idle".to_string()][..], &of_reader].concat());
 }
 
-/// `mk_hub_hear` is `lent::hub::hear`, `mk_check` is `packet::check`. The short way is inside of those.
+/// `pub present: [u8; PLACES],` or `uint8_t present[MK_PLACES];`: the fields of a struct that begins so.
+fn fields(text: &str, begin: &str) -> Vec<String> {
+    let declared = part(text, begin, "}");
+    let name = |field: &str| {
+        let (name, _) = field.split_once([':', '['])?;
+        name.split_whitespace().next_back().map(str::to_string)
+    };
+    declared.split([',', ';']).filter_map(name).collect()
+}
+
+/// `mk_table_set` is `Table::set`, and so for each call; `mk_table_init` is `Table::new`. What Rust reads by number C reads
+/// in the struct, whose fields are Rattle's.
+#[test]
+fn of_the_table() {
+    let rust = functions(TABLE, "Table");
+    let mut c: BTreeSet<String> =
+        header_calls().into_keys().filter_map(|call| Some(call.strip_prefix("table_")?.to_string())).collect();
+    assert_eq!(c, ["power_up", "set", "set_defaults"].map(str::to_string).into());
+    assert!(HEADER.contains("static inline void mk_table_init(mk_table *table)"));
+    c.insert("new".to_string());
+    let read = ["locked", "parameter", "permanent"].map(str::to_string);
+    assert_eq!(rust, c.into_iter().chain(read).collect());
+    let in_order = ["present", "permanent", "locked"];
+    assert_eq!(fields(TABLES, "pub struct MkTable {"), in_order);
+    assert_eq!(fields(TABLE, "pub struct Table {"), in_order);
+    let (declared, _) = HEADER.split_once("} mk_table;").expect("the struct");
+    let (_, declared) = declared.rsplit_once("typedef struct {").expect("its begin");
+    assert_eq!(fields(declared, ""), in_order);
+}
+
+/// `mk_hub_hear` is `lent::hub::hear`, `mk_check` is `packet::check`. The short way is inside of those, and a table is
+/// lent as it is.
 #[test]
 fn of_the_lent_calls() {
     let stands = |text: &str, name: &str| ["(", "<"].iter().any(|end| text.contains(&format!("\npub fn {name}{end}")));
     let mut found = 0;
-    for call in header_calls().into_keys().filter(|call| call != "go_on") {
+    for call in header_calls().into_keys().filter(|call| call != "go_on" && !call.starts_with("table_")) {
         let place = MACHINES
             .iter()
             .find_map(|(machine, _, _, lent)| Some((*lent, call.strip_prefix(machine)?.strip_prefix('_')?)));

@@ -3,11 +3,11 @@
 use std::sync::Mutex;
 
 use motikhund::constants::{
-    FRAMER_CONTROL_SIZE, HUB_ANSWER_SIZE, HUB_CONTROL_SIZE, LINE_SIZE, MESSAGE_SIZE, PACKET_SIZE, READER_ANSWER_SIZE,
-    READER_CONTROL_SIZE, SENDER_CONTROL_SIZE, SET_SIZE,
+    FRAMER_CONTROL_SIZE, HUB_ANSWER_SIZE, HUB_CONTROL_SIZE, LINE_SIZE, MESSAGE_SIZE, PACKET_SIZE, PLACES,
+    PLACE_SAME_SYMBOL_TIME, PLACE_TRIGGER, READER_ANSWER_SIZE, READER_CONTROL_SIZE, SENDER_CONTROL_SIZE, SET_SIZE,
 };
 use motikhund::lent::{framer, hub, reader, sender};
-use motikhund::{Event, Found, Framer, Heard, Hub, HubTold, Outcome, Reader, ReaderTold, Sender};
+use motikhund::{Event, Found, Framer, Heard, Hub, HubTold, Outcome, Reader, ReaderTold, Sender, Table};
 
 use crate::dice::Dice;
 use crate::streams::{Side, Stream};
@@ -86,6 +86,13 @@ fn a_reader() {
                 let form = any_locks(&mut dice, &set);
                 assert_eq!(owner.load(&form), reader::load(&mut control, &form));
             }
+            4 => {
+                let mut table = owner.table();
+                assert_eq!(reader::table(&control), Ok(table));
+                table.locked[PLACE_SAME_SYMBOL_TIME] = dice.pick(&[0, 0, 1, 2]);
+                table.present[PLACE_TRIGGER] = dice.pick(&[0, 1, 2]);
+                assert_eq!(owner.put_table(&table), reader::put_table(&mut control, &table));
+            }
             _ => {
                 let event = stream.next(&mut dice);
                 let (line, answers) = (&mut line, &mut answers);
@@ -112,6 +119,7 @@ fn they_are_made_as_by_the_calls() {
     static HUB: Mutex<Hub> = Mutex::new(Hub::new());
     static SENDER: Mutex<Sender> = Mutex::new(Sender::new());
     static READER: Mutex<Reader> = Mutex::new(Reader::new());
+    static TABLE: Mutex<Table> = Mutex::new(Table::new());
     let (mut of_framer, mut of_hub) = ([0xAA; FRAMER_CONTROL_SIZE], [0xAA; HUB_CONTROL_SIZE]);
     let (mut of_sender, mut of_reader) = ([0xAA; SENDER_CONTROL_SIZE], [0xAA; READER_CONTROL_SIZE]);
     assert_eq!((framer::idle(&mut of_framer), hub::on(&mut of_hub)), (Ok(()), Ok(())));
@@ -121,6 +129,9 @@ fn they_are_made_as_by_the_calls() {
     has(format!("{:?}", HUB.lock().expect("whole")), &of_hub);
     has(format!("{:?}", SENDER.lock().expect("whole")), &of_sender);
     has(format!("{:?}", READER.lock().expect("whole")), &of_reader);
+    let mut zeros = Table { present: [0; PLACES], permanent: [0; PLACES], locked: [0; PLACES] };
+    zeros.set_defaults();
+    assert_eq!(*TABLE.lock().expect("whole"), zeros);
     assert_eq!(sender::idle(&mut of_sender, true), Ok(()));
     has(format!("{:?}", Sender::idle(true)), &of_sender);
 }
@@ -137,5 +148,9 @@ fn they_are_values() {
     assert!(matches!(sender.send(0, &[]), Outcome::Copy { .. }));
     assert!(framer != before.0 && hub != before.1 && reader != before.2 && sender != before.3);
     assert!(format!("{hub:?}").contains("line: 514 bytes"));
+    let (mut table, before) = (Table::default(), Table::new());
+    assert_eq!(table, before);
+    assert_eq!(table.set(&[0x89, 5], false), Ok(()));
+    assert!(table != before && format!("{table:?}").contains("present: [0, 5, 0, 20, 6, 4, 1, 0, 1]"));
     assert!(format!("{:?}", Sender::idle(true)).contains("control: [0, 0, 1, 0, "));
 }

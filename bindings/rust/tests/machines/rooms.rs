@@ -12,9 +12,10 @@ use motikhund::{packet, Event, Found, Heard, HubTold, Outcome, ReaderTold, Refus
 use crate::bare;
 use crate::dice::Dice;
 use crate::fenced::Size::{self, Array, Room};
-use crate::fenced::{Fenced, FILLS, FRAMER, HUB, READER, SENDER};
+use crate::fenced::{Fenced, FILLS, FRAMER, HUB, READER, SENDER, TABLE_SIZE};
 use crate::notation::{bytes, hub_ack};
 use crate::sets::house_set;
+use crate::tables::table_in;
 
 const ROUNDS: u64 = 50;
 
@@ -127,6 +128,11 @@ fn of_the_reader() {
     asks([Room(READER_CONTROL_SIZE)], |dice, [control]| reader::locked(control.lent(), dice.byte()).err());
     asks([Room(READER_CONTROL_SIZE)], |dice, [control]| reader::value(control.lent(), dice.byte()).err());
     asks([Room(READER_CONTROL_SIZE)], |_, [control]| reader::switches(control.lent()).err());
+    asks([Room(READER_CONTROL_SIZE)], |_, [control]| reader::table(control.lent()).err());
+    // Before 9 for what stands in a table.
+    asks([Room(READER_CONTROL_SIZE), Array(TABLE_SIZE)], |_, [control, table]| {
+        reader::put_table(control.lent(), &table_in(table)).err()
+    });
     let sizes = [Room(READER_CONTROL_SIZE), Array(MESSAGE_SIZE), Room(PACKET_SIZE)];
     asks(sizes, |dice, [control, message, copy]| {
         let size = dice.pick(&[0, 1, 300, 4_096, 4_097]);

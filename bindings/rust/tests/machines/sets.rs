@@ -15,7 +15,7 @@ use crate::fenced::{Fenced, FILLS};
 use crate::notation::{ack, command, nak, packet, reader_ack, reader_hears, sent};
 use crate::parameters::{acted, set, values, ROWS};
 
-const NUMBERS: [u8; 9] = {
+pub const NUMBERS: [u8; 9] = {
     let mut numbers = [0; 9];
     let mut row = 0;
     while row < ROWS.len() {
@@ -75,7 +75,7 @@ impl Set {
     }
 }
 
-fn is_allowed(row: usize, value: u8) -> bool {
+pub fn is_allowed(row: usize, value: u8) -> bool {
     let [number, low, high, _] = ROWS[row];
     let gaps = number == PARAMETER_TRIGGER && ![0, 2, 4, 7, 8].contains(&value);
     (low..=high).contains(&value) && !gaps
@@ -316,7 +316,7 @@ fn locks_outlast_power_up() {
         assert_eq!((0..=255).filter(|number| reader.locked(*number)).collect::<Vec<u8>>(), [0x8A, 0x9C]);
     }
     assert!(matches!(reader_hears(&mut reader, &sent(&set(0, &[0x9C, 7]))), ReaderTold::Refused { .. }));
-    // Only a set unlocks.
+    // A set unlocks, and no command.
     lock(&mut reader, &[]);
     acted(&mut reader, &set(0, &[0x9C, 7]));
 }

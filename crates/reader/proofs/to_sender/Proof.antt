@@ -29,7 +29,7 @@ same-length : tie.Need-same-length
 same-length c = search needs
 
 returns : tie.Need-returns
-returns c = sender-hears (c .before .before .before .before .before .before .before .before .before .before .before .before .before .before .pre .0) (c .before .before .before .before .before .before .before .before .data-part .ensures) (c .before .before .before .before .before .before .before .heed .ensures) (c .before .before .before .before .before .hear .ensures) (c .core-with .ensures)
+returns c = sender-hears (c .before .before .before .before .before .before .before .before .before .before .before .before .before .before .before .pre .0) (c .before .before .before .before .before .before .before .before .before .data-part .ensures) (c .before .before .before .before .before .before .before .before .heed .ensures) (c .before .before .before .before .before .hear .ensures) (c .core-with .ensures)
 
 pub to-sender-spec : {M : Type 1} → statement M
 to-sender-spec =

@@ -8,10 +8,10 @@ use Rattle.table.proofs.all_settable.Statement.{statement}
 use Rattle.table.proofs.all_settable.Tie as tie
 
 abbrev Inv-loop : tie.InvT-loop
-Inv-loop table pairs i₀ i = Judging table pairs i
+Inv-loop locked pairs i₀ i = Judging locked pairs i
 
 abbrev μ-loop : tie.MeasureT-loop
-μ-loop table pairs i₀ i = length pairs - i
+μ-loop locked pairs i₀ i = length pairs - i
 
 loop-holds : tie.Need-loop-holds Inv-loop μ-loop
 loop-holds c = judging-none (c .before .pre)

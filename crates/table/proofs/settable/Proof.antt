@@ -12,16 +12,16 @@ array-read-if2 : tie.Need-array-read-if2
 array-read-if2 c = search needs
 
 returns : tie.Need-returns
-returns c = settable-locked (c .before .before .before .place .ensures) (c .if2 .taken)
+returns c = settable-locked (c .before .before .place .ensures) (c .if2 .taken)
 
 row-allows-requires : tie.Need-row-allows-requires
 row-allows-requires c κs = search needs
 
 returns-2 : tie.Need-returns-2
-returns-2 c = settable-free (c .before .before .before .before .place .ensures) (omega arith) (c .before .if2 .left) (c .row-allows .ensures)
+returns-2 c = settable-free (c .before .before .before .place .ensures) (omega arith) (c .before .if2 .left) (c .row-allows .ensures)
 
 returns-3 : tie.Need-returns-3
-returns-3 c = settable-unknown (c .before .before .place .ensures) (omega arith)
+returns-3 c = settable-unknown (c .before .place .ensures) (omega arith)
 
 pub settable-spec : {M : Type 1} → statement M
 settable-spec =
