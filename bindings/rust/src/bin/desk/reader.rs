@@ -7,19 +7,6 @@ use motikhund::{Event, Outcome, ReaderTold};
 use crate::lines::Lines;
 use crate::notation::{size, End, Further, Shape, Token, ROOM};
 
-/// The parameters' numbers, rising.
-const NUMBERS: [u8; 9] = [
-    PARAMETER_POWER_MODE,
-    PARAMETER_SAME_SYMBOL_TIME,
-    PARAMETER_TRIGGER,
-    PARAMETER_RESPONSE_TIME_OUT,
-    PARAMETER_BAUD,
-    PARAMETER_PARITY,
-    PARAMETER_ACK_NAK,
-    PARAMETER_AIM_DURATION,
-    PARAMETER_PACKETED_DATA,
-];
-
 /// `S tt bb .. ;`: the code type, and one byte more than the longest message has, so that a longer one is refused.
 const START: Shape =
     Shape { letter: b'S', closing: b';', least: 1, most: 1 + MESSAGE_SIZE + 1, further: Further::Dropped };
@@ -77,7 +64,7 @@ impl Reader {
     }
 
     fn values(&mut self, lines: &mut Lines) {
-        lines.bytes(b'U', &NUMBERS.map(|number| reader::value(&self.control, number).unwrap_or_default()));
+        lines.bytes(b'U', &reader::table(&self.control).unwrap_or_default().present);
     }
 
     fn lend(&mut self, bytes: &[u8], _: &mut Lines) {
