@@ -1,4 +1,6 @@
 // The reader's commands: which opcode names which, the data that each takes, its beeps, and what it does to the device.
+#![tactic(auto)]
+
 ghost use Rattle.std.specs.Prelude.{◌%◌, ◌≡◌, length};
 ghost use Rattle.commands.specs.Commands.{denied, judged, effect, send_command, beep_command};
 ghost use Rattle.commands.specs.Promises.{Names, LengthAllowed, Commands, Fit, SendBeepAllowed, Reports, StartsSession, StopsSession, Scans, Aims, Lights, Acts, device_of};
@@ -43,7 +45,7 @@ const BEEPS: [[u8; 3]; 30] = [
 const BEEP_LIMIT: u8 = 0x1D;
 
 // What the commands switch on and off.
-#[derive(Drop)]
+#[derive(Clone, Copy)]
 pub struct Switches {
     pub scanning: bool,
     pub session: bool,
@@ -52,13 +54,13 @@ pub struct Switches {
 }
 
 // What the commands change.
-#[derive(Drop)]
+#[derive(Clone, Copy)]
 pub struct Device {
     pub table: Table,
     pub switches: Switches,
 }
 
-#[derive(Drop)]
+#[derive(Clone, Copy)]
 pub enum Command {
     ParamSend,
     ParamRequest,
@@ -75,27 +77,27 @@ pub enum Command {
 }
 
 // What an opcode names.
-#[derive(Drop)]
+#[derive(Clone, Copy)]
 pub enum Named {
     Unknown,
     Known(Command),
 }
 
 // The row of beeps that is reported, if one is.
-#[derive(Drop)]
+#[derive(Clone, Copy)]
 pub enum Beep {
     Silent,
     Row { duration: u8, pitch: u8, count: u8 },
 }
 
 // Whether a command was acted on.
-#[derive(Drop)]
+#[derive(Clone, Copy)]
 pub enum Verdict {
     Denied(Refusal),
     Done(Beep),
 }
 
-#[derive(Drop)]
+#[derive(Clone, Copy)]
 pub struct Commanded {
     pub device: Device,
     pub verdict: Verdict,

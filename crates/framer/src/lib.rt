@@ -1,4 +1,6 @@
 // The framer (§5): bytes and gaps of a line, one event at a time, into packets and refusals.
+#![tactic(auto)]
+
 ghost use Rattle.std.specs.Prelude.{◌≤◌, ◌<◌, false, ◌≡◌, length};
 ghost use Rattle.packet.specs.Sizes.{packet_size};
 ghost use Rattle.framer.specs.Halves.{line_size, IdleHalves, Moved, Listens, Received, Kept, AcceptsLast, Place, Last, GoesOn, Inside};
@@ -13,7 +15,7 @@ pub const LINE_SIZE: usize = 2 * PACKET_SIZE;
 const BODY_SIZE: usize = PACKET_SIZE - CHECKSUM_SIZE;
 
 // What happens on a line. A message gap is also a character gap.
-#[derive(Drop)]
+#[derive(Clone, Copy)]
 pub enum Event {
     Byte(u8),
     CharacterGap,
@@ -21,21 +23,21 @@ pub enum Event {
 }
 
 // Whether all bytes are ignored until the next gap, and how many bytes of the packet begun stand in the line buffer.
-#[derive(Drop)]
+#[derive(Clone, Copy)]
 pub struct Framer {
     pub deaf: bool,
     pub count: usize,
 }
 
 // What an event ended: nothing, a packet that stands at the front of the line buffer, or a refusal.
-#[derive(Drop)]
+#[derive(Clone, Copy)]
 pub enum Found {
     Nothing,
     Packet(Head),
     Refused(Refusal),
 }
 
-#[derive(Drop)]
+#[derive(Clone, Copy)]
 pub struct Framed {
     pub framer: Framer,
     pub found: Found,
@@ -148,14 +150,14 @@ fn unfinished(refusal: Refusal, count: usize) -> Framed
 }
 
 // A framer over two halves of a line buffer: which half receives, and how long the last accepted packet in the other is.
-#[derive(Drop)]
+#[derive(Clone, Copy)]
 pub struct Halves {
     pub framer: Framer,
     pub second: bool,
     pub last: usize,
 }
 
-#[derive(Drop)]
+#[derive(Clone, Copy)]
 pub struct Listened {
     pub halves: Halves,
     pub found: Found,
@@ -207,7 +209,7 @@ fn moved(halves: Halves, framer: Framer) -> Halves
 }
 
 // What the short way did with an event.
-#[derive(Drop)]
+#[derive(Clone, Copy)]
 pub enum Going {
     // so many bytes are begun now; deaf or not, the framer is as it was
     On(usize),
@@ -296,7 +298,7 @@ fn pause(framer: Framer, second: bool, buffer: &[u8]) -> Going
 }
 
 // What went in silence: the halves afterwards, and how many bytes.
-#[derive(Drop)]
+#[derive(Clone, Copy)]
 pub struct TakenIn {
     pub halves: Halves,
     pub count: usize,

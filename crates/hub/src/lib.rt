@@ -1,4 +1,6 @@
 // The hub (§8, §9): decode data of a reader, joined to messages, one event at a time.
+#![tactic(auto)]
+
 ghost use Rattle.std.specs.Prelude.{◌+◌, ◌≤◌, ◌≡◌, length, take};
 ghost use Rattle.packet.specs.Opcodes.{host};
 ghost use Rattle.packet.specs.Packet.{seal, data_in, reply_body};
@@ -18,7 +20,7 @@ pub const HUB_ANSWER_SIZE: usize = packet::ANSWER_SIZE;
 pub const BLOCK_SIZE: usize = 4096;
 
 // What is gathered of a message: whether one is begun, its code type, and how many bytes wait in the gather buffer.
-#[derive(Drop)]
+#[derive(Clone, Copy)]
 pub struct Gathering {
     pub barred: bool,
     pub begun: bool,
@@ -27,14 +29,14 @@ pub struct Gathering {
 }
 
 // The hub's control value: the line with its last accepted packet, and what is gathered.
-#[derive(Drop)]
+#[derive(Clone, Copy)]
 pub struct Hub {
     pub line: Halves,
     pub gathering: Gathering,
 }
 
 // What an event brought.
-#[derive(Drop)]
+#[derive(Clone, Copy)]
 pub enum Told {
     Nothing,
     // a piece was added
@@ -47,7 +49,7 @@ pub enum Told {
 }
 
 // What became of an event.
-#[derive(Drop)]
+#[derive(Clone, Copy)]
 pub struct Taken {
     pub hub: Hub,
     pub told: Told,
@@ -55,13 +57,13 @@ pub struct Taken {
     pub answer: usize,
 }
 
-#[derive(Drop)]
+#[derive(Clone, Copy)]
 struct Joined {
     gathering: Gathering,
     told: Told,
 }
 
-#[derive(Drop)]
+#[derive(Clone, Copy)]
 struct Stepped {
     hub: Hub,
     told: Told,

@@ -1,5 +1,7 @@
 // The hub listing on the cases that §16's example leaves out, which stand in the file `stdin`. The text buffer is small and odd, so
 // that reads cut packets and pairs of digits everywhere, and the room is full after a few lines.
+#![tactic(auto)]
+
 use hub_lister::{LINE_SIZE, MESSAGE_SIZE};
 
 fn main() {

@@ -1,5 +1,7 @@
 // The hub listing (§16): characters of a line in, the lines of what the hub does out.
 // Here it works on lent text and lent rooms; `stream` reads and writes.
+#![tactic(auto)]
+
 mod stream;
 
 ghost use Rattle.std.specs.Prelude.{◌+◌, ◌≤◌, ◌≡◌, length};
@@ -20,7 +22,7 @@ const CODED_SIZE: usize = MESSAGE_SIZE + 1;
 pub const LINES_SIZE: usize = (3 * CODED_SIZE + 2) + (3 * HUB_ANSWER_SIZE + 2);
 
 // Where a listing stands: the hub, the first digit that waits for its second, and whether it has ended with `E`.
-#[derive(Drop)]
+#[derive(Clone, Copy)]
 pub struct Lister {
     pub hub: Hub,
     pub waiting: Digit,
@@ -28,14 +30,14 @@ pub struct Lister {
 }
 
 // So many characters were taken, and so many bytes of lines stand in the room.
-#[derive(Drop)]
+#[derive(Clone, Copy)]
 pub struct Listed {
     pub lister: Lister,
     pub taken: usize,
     pub count: usize,
 }
 
-#[derive(Drop)]
+#[derive(Clone, Copy)]
 struct Step {
     lister: Lister,
     place: usize,

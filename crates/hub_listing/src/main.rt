@@ -1,4 +1,6 @@
 // Reads a line's bytes and gaps from standard input and writes what the hub does: §16, the hub listing.
+#![tactic(auto)]
+
 use hub_lister::{LINE_SIZE, MESSAGE_SIZE};
 
 fn main() {

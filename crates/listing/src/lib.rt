@@ -1,18 +1,20 @@
 // The text that the listings share (§16): characters read as tokens, and lines of bytes put into a lent room.
 // Any value is taken; a line that the room does not hold whole from its place on is not put at all.
+#![tactic(auto)]
+
 ghost use Rattle.std.specs.Prelude.{◌+◌, ◌*◌, ◌<◌, ◌≤◌, length};
 ghost use Rattle.listing.specs.Lines.{hex_byte, hex_bytes, line_of, error_line};
 ghost use Rattle.listing.specs.Promises.{IsDigit, Takes, First, Second, Signs, Joined, Capital, Spelt, Puts, PutsAnswer, Writes, Finishes, GoesOn};
 
 // What a character is worth as a hex digit, of either case.
-#[derive(Drop)]
+#[derive(Clone, Copy)]
 pub enum Digit {
     Value(u8),
     No,
 }
 
 // What a character says, with the digit before it that waits for its second.
-#[derive(Drop)]
+#[derive(Clone, Copy)]
 pub enum Token {
     Nothing,
     Byte(u8),
@@ -25,14 +27,14 @@ pub enum Token {
 }
 
 // A token, and the digit that waits from here on.
-#[derive(Drop)]
+#[derive(Clone, Copy)]
 pub struct Taken {
     pub waiting: Digit,
     pub token: Token,
 }
 
 // The two capital digits of a byte.
-#[derive(Drop)]
+#[derive(Clone, Copy)]
 pub struct Pair {
     pub high: u8,
     pub low: u8,

@@ -12,7 +12,7 @@ use hub::HUB_ANSWER_SIZE;
 const MESSAGE: u32 = 112;
 
 // What a block brought, as `mk_hub_hear_block` tells it.
-#[derive(Drop)]
+#[derive(Clone, Copy)]
 pub(crate) struct Brought {
     pub(crate) told: u32,
     pub(crate) answer: usize,

@@ -1,6 +1,8 @@
 // The library for other languages: every machine over bytes and numbers. The caller keeps a control value as bytes (`control`),
 // what is told comes back as numbers (`numbers`), and no call trusts its caller: whatever is lent too small is number 13, with
 // nothing changed; a number that names no event or reply does nothing.
+#![tactic(auto)]
+
 mod block;
 mod control;
 mod numbers;

@@ -10,7 +10,7 @@ use table::{PARAMETER_COUNT, Table};
 // Present and permanent values and locks in the order of the settings. A lock is a byte, 1 where the parameter is locked: any bytes are
 // some table. C calls it `mk_table`.
 #[repr(C)]
-#[derive(Drop)]
+#[derive(Clone, Copy)]
 pub struct MkTable {
     pub present: [u8; PARAMETER_COUNT],
     pub permanent: [u8; PARAMETER_COUNT],
@@ -18,7 +18,7 @@ pub struct MkTable {
 }
 
 // What a call leaves in the struct, and its number.
-#[derive(Drop)]
+#[derive(Clone, Copy)]
 pub(crate) struct Altered {
     pub(crate) table: MkTable,
     pub(crate) told: u32,

@@ -1,4 +1,6 @@
 // The packet of Simple Serial Interface: its check, its building, ACK and NAK, and the refusals by name.
+#![tactic(auto)]
+
 ghost use Rattle.std.specs.Prelude.{◌+◌, ◌≤◌, length};
 ghost use Rattle.packet.specs.Promises.{Number, Cause, Sum, Check, DataPart, Allowed, AllowedSource, Fields, Headed, Sealed, SizeOf, Build, Fill, Answer, Naks, Equal, Resent, IsAnswer};
 ghost use Rattle.packet.specs.Sizes.{head_size, checksum_size, data_size, body_size, answer_size};
@@ -54,7 +56,7 @@ pub const SCAN_ENABLE: u8 = 0xE9;
 pub const SCAN_DISABLE: u8 = 0xEA;
 
 // Why a call or a packet is refused.
-#[derive(Drop)]
+#[derive(Clone, Copy)]
 pub enum Refusal {
     // length below 4
     Length,
@@ -87,7 +89,7 @@ pub enum Refusal {
 }
 
 // What stands before the data. The length doesn't count the checksum.
-#[derive(Drop)]
+#[derive(Clone, Copy)]
 pub struct Head {
     pub length: usize,
     pub opcode: u8,
@@ -96,21 +98,21 @@ pub struct Head {
 }
 
 // What the packet check finds at the front of some bytes.
-#[derive(Drop)]
+#[derive(Clone, Copy)]
 pub enum Checked {
     Packet(Head),
     Refused(Refusal),
 }
 
 // What building did: so many bytes at the front of the room, or nothing.
-#[derive(Drop)]
+#[derive(Clone, Copy)]
 pub enum Built {
     Written(usize),
     Refused(Refusal),
 }
 
 // An answer on the line: CMD_ACK, or CMD_NAK with its cause.
-#[derive(Drop)]
+#[derive(Clone, Copy)]
 pub enum Reply {
     Ack,
     Nak(u8),

@@ -1,4 +1,6 @@
 // The reader's whole end of the line: framer, commands with the parameter table, and sender.
+#![tactic(auto)]
+
 ghost use Rattle.std.specs.Prelude.{◌≤◌, ◌≡◌, length};
 ghost use Rattle.packet.specs.Opcodes as opcode;
 ghost use Rattle.packet.specs.Packet.{seal, reply_body};
@@ -20,7 +22,7 @@ use table::Table;
 pub const READER_ANSWER_SIZE: usize = packet::HEAD_SIZE + table::PAIRS_SIZE + packet::CHECKSUM_SIZE;
 
 // The reader's control value: the line with its last accepted packet, how long the answer to that one was, the device, the sender.
-#[derive(Drop)]
+#[derive(Clone, Copy)]
 pub struct Reader {
     pub line: Halves,
     pub last_answer: usize,
@@ -29,7 +31,7 @@ pub struct Reader {
 }
 
 // What an event brought of commands.
-#[derive(Drop)]
+#[derive(Clone, Copy)]
 pub enum Told {
     Nothing,
     Refused(Refusal),
@@ -40,7 +42,7 @@ pub enum Told {
 }
 
 // So many bytes stand in the answer room; the outcome is the sender's.
-#[derive(Drop)]
+#[derive(Clone, Copy)]
 pub struct Taken {
     pub reader: Reader,
     pub told: Told,
@@ -48,28 +50,28 @@ pub struct Taken {
     pub outcome: Outcome,
 }
 
-#[derive(Drop)]
+#[derive(Clone, Copy)]
 pub struct Started {
     pub reader: Reader,
     pub outcome: Outcome,
 }
 
 // Whether a saved set was taken.
-#[derive(Drop)]
+#[derive(Clone, Copy)]
 pub struct Loaded {
     pub reader: Reader,
     pub verdict: table::Verdict,
 }
 
 // The reader's control value without its line.
-#[derive(Drop)]
+#[derive(Clone, Copy)]
 struct Core {
     last_answer: usize,
     device: Device,
     sender: Sender,
 }
 
-#[derive(Drop)]
+#[derive(Clone, Copy)]
 struct Stepped {
     told: Told,
     core: Core,

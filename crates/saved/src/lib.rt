@@ -1,4 +1,6 @@
 // The saved set: a table's permanent values and locks as bytes that go from one reader to another.
+#![tactic(auto)]
+
 ghost use Rattle.std.specs.Prelude.{◌+◌, ◌*◌, ◌≤◌, ◌<◌, [], ◌∷◌, length};
 ghost use Rattle.words.specs.Lists.{Over};
 ghost use Rattle.table.specs.Rows.{parameter_count, rows};

@@ -1,4 +1,6 @@
 // The reader's sender: a message cut into packets, each copied to the line until it is acknowledged.
+#![tactic(auto)]
+
 ghost use Rattle.std.specs.Prelude.{◌+◌, ◌≤◌, ◌<◌, ◌≡◌, true, false, ◌∷◌, length};
 ghost use Rattle.packet.specs.Opcodes.{decode_data, reader};
 ghost use Rattle.packet.specs.Packet.{body_of};
@@ -17,7 +19,7 @@ const RESEND_LIMIT: usize = 2;
 
 // The sender's control value. `at` is where the present piece starts in the message buffer, `size` how many bytes it has;
 // `resends` counts those of the present packet, `copies` the marked copies of the message.
-#[derive(Drop)]
+#[derive(Clone, Copy)]
 pub struct Sender {
     pub length: usize,
     pub at: usize,
@@ -33,7 +35,7 @@ pub struct Sender {
 }
 
 // What the sender hears of the host.
-#[derive(Drop)]
+#[derive(Clone, Copy)]
 pub enum Heard {
     Ack,
     Nak(u8),
@@ -43,7 +45,7 @@ pub enum Heard {
 
 // What a call brought: a copy of so many bytes in the room, with whether a message gap is due before it; or a message's end with
 // the number of its marked copies.
-#[derive(Drop)]
+#[derive(Clone, Copy)]
 pub enum Outcome {
     Nothing,
     Copy { size: usize, gap: bool },
@@ -52,7 +54,7 @@ pub enum Outcome {
     Refused(Refusal),
 }
 
-#[derive(Drop)]
+#[derive(Clone, Copy)]
 pub struct Sending {
     pub sender: Sender,
     pub outcome: Outcome,

@@ -1,4 +1,6 @@
 // The parameter table: nine settings with a present and a permanent value each, some of them locked.
+#![tactic(auto)]
+
 ghost use Rattle.std.specs.Prelude.{◌+◌, ◌*◌, ◌≤◌, ◌<◌, ◌≡◌, length};
 ghost use Rattle.table.specs.Rows.{parameter_count};
 ghost use Rattle.table.specs.Promises.{Defaults, SetsDefaults, PowerUp, Sets, SendLengthAllowed, RequestLengthAllowed, Value, Locked, Allowed, Answers, Restores, UnlessLocked, Place, TriggerAllowed, RowAllows, Even, Settable, AllSettable, Judges, Full, Puts, PutsIf, Changes, AsksAll, AllPairs, AskedPairs, Fits, Asks};
@@ -24,7 +26,7 @@ pub const SETTINGS: [[u8; 4]; PARAMETER_COUNT] = [
 ];
 
 // Which parameters are locked, and their present and permanent values, in the order of the settings.
-#[derive(Drop)]
+#[derive(Clone, Copy)]
 pub struct Table {
     pub locked: [bool; PARAMETER_COUNT],
     pub present: [u8; PARAMETER_COUNT],
@@ -32,20 +34,20 @@ pub struct Table {
 }
 
 // What became of a list of settings.
-#[derive(Drop)]
+#[derive(Clone, Copy)]
 pub enum Verdict {
     Done,
     Refused(Refusal),
 }
 
-#[derive(Drop)]
+#[derive(Clone, Copy)]
 pub struct Changed {
     pub table: Table,
     pub verdict: Verdict,
 }
 
 // What the pair writer did.
-#[derive(Drop)]
+#[derive(Clone, Copy)]
 pub enum Written {
     Bytes(usize),
     Refused(Refusal),

@@ -1,6 +1,8 @@
 // Runs outside vectors through the packet library and prints what it found, a line for each.
 // A line ends with `ok`, or with `WRONG` where something else is due. The last line has the number of comparisons made and
 // of those wrong.
+#![tactic(auto)]
+
 mod rules;
 mod tally;
 mod trials;

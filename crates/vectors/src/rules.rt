@@ -210,7 +210,7 @@ fn fields(before: Tally) -> Tally {
 }
 
 // The status with one opcode, the source, the opcode, or the number of data bytes.
-#[derive(Drop)]
+#[derive(Clone, Copy)]
 enum Field {
     Status(u8),
     Source,
@@ -218,7 +218,7 @@ enum Field {
     Size,
 }
 
-#[derive(Drop)]
+#[derive(Clone, Copy)]
 struct Allowed {
     tally: Tally,
     count: usize,

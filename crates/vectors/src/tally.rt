@@ -3,7 +3,7 @@ use libc::STDOUT_FILENO;
 use words::wide;
 
 // How many comparisons were made, and how many of them found something else than is due.
-#[derive(Drop)]
+#[derive(Clone, Copy)]
 pub(crate) struct Tally {
     pub made: usize,
     pub wrong: usize,

@@ -262,7 +262,7 @@ fn damaged(t: Tally, bytes: &[u8]) -> Tally {
 }
 
 // How often the check found a packet, and refusals 1, 2 and 3.
-#[derive(Drop)]
+#[derive(Clone, Copy)]
 struct Found {
     tally: Tally,
     packets: usize,

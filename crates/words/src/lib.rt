@@ -1,4 +1,6 @@
 // The small functions that every crate shares: a byte as a count, bytes copied to the front of a room, and a comparison.
+#![tactic(auto)]
+
 ghost use Rattle.std.specs.Prelude.{◌≤◌, length};
 ghost use Rattle.words.specs.Lists.{Wide, Over, Copied, Compared};
 

@@ -1,0 +1,11 @@
+-- `framer::received` meets its contract: the part in the half that receives. Assumes nothing.
+use native.Mathlib.Omega.{arith}
+use Rattle.framer.proofs.TwoHalves.{received_is, received_none}
+use borrow.Author.Rules.{rules}
+use Rattle.framer.proofs.received.Goals as goal
+
+pub returns-then-n-le-PACKET_SIZE : goal.returns-then-n-le-PACKET_SIZE
+returns-then-n-le-PACKET_SIZE c = received_is (search rules) c.place-from.ensures (omega arith)
+
+pub returns : goal.returns
+returns c = received_none (omega arith)

@@ -1,0 +1,16 @@
+-- `hub::add` meets its contract: type, total, and then the piece handed out or kept. Assumes nothing.
+use native.Mathlib.Omega.{arith}
+use Rattle.hub.proofs.Joining.{adds_other, adds_much, adds_last, adds_more}
+use Rattle.hub.proofs.add.Goals as goal
+
+pub returns-then-other_type : goal.returns-then-other_type
+returns-then-other_type c = adds_other c.requires.0 c.requires.1 c.requires.4 c.other_type.ensures c.if-other_type.true c.bar.ensures
+
+pub returns-then-at-data : goal.returns-then-at-data
+returns-then-at-data c = adds_much c.requires.0 c.requires.1 c.requires.4 c.other_type.ensures c.if-other_type.false (omega arith) c.bar-then-at-data.ensures
+
+pub returns-then-body-eq0 : goal.returns-then-body-eq0
+returns-then-body-eq0 c = adds_last c.requires.0 c.requires.1 c.requires.4 c.other_type.ensures c.if-other_type.false (omega arith) c.if-body-eq0.true c.hand_out.ensures
+
+pub returns : goal.returns
+returns c = adds_more c.requires.0 c.requires.1 c.requires.4 c.other_type.ensures c.if-other_type.false (omega arith) c.if-body-eq0.false c.keep.ensures

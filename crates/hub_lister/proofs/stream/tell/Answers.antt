@@ -1,0 +1,34 @@
+-- `hub_lister::stream::tell` meets its contract: each turn takes at least one character, and the session goes on. Assumes nothing.
+use Prim.Native.Nat.{◌-◌}
+use native.Mathlib.Omega.{arith}
+use lib.ListN.{length-take, length-drop}
+use borrow.Author.Rules.{rules}
+use Rattle.hub_lister.proofs.Theorems.{continues, takes_one}
+use Rattle.hub_lister.proofs.stream.tell.Goals as goal
+
+pub loop-from-init : goal.loop-from-init
+loop-from-init c = (c.requires.0, search rules, search rules)
+
+pub returns-then-present : goal.returns-then-present
+returns-then-present c = c.loop-from.invariant.0
+
+pub write-requires : goal.write-requires
+write-requires c = omega (arith, c.hear-listed.ensures.hears.inside)
+
+pub overflow_add-from : goal.overflow_add-from
+overflow_add-from c = omega (arith, simp (length-take, length-drop) at c.hear-listed.ensures.hears.within, c.well-formed)
+
+pub loop-from-smaller : goal.loop-from-smaller
+loop-from-smaller c = let h = c.hear-listed.ensures in
+    let one =
+    takes_one h c.if-present.false
+    (omega (arith, c.loop-from.invariant.2, c.requires.1))
+    (simp (length-take, length-drop) (omega arith)) in
+    omega (arith, simp (length-take, length-drop) at h.hears.within, one)
+
+pub loop-from-preserved : goal.loop-from-preserved
+loop-from-preserved c = let h = c.hear-listed.ensures in
+    (continues c.loop-from.invariant.0 h, omega (arith, simp (length-take, length-drop) at h.hears.within), search rules)
+
+pub returns : goal.returns
+returns c = c.loop-from.invariant.0

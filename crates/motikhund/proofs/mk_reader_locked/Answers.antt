@@ -1,0 +1,11 @@
+-- `motikhund::mk_reader_locked` meets its contract: 13, or the table's call on what the bytes hold. Assumes nothing.
+use native.Mathlib.Omega.{arith}
+use Rattle.motikhund.specs.Lent.{here}
+use Rattle.motikhund.proofs.Calls.{locked_13, reader_locked}
+use Rattle.motikhund.proofs.mk_reader_locked.Goals as goal
+
+pub returns-then-control-lt-READER_CONTROL_SIZE : goal.returns-then-control-lt-READER_CONTROL_SIZE
+returns-then-control-lt-READER_CONTROL_SIZE c = locked_13 (here (omega arith))
+
+pub returns : goal.returns
+returns c = reader_locked (omega arith) c.reader-before.ensures c.locked.ensures c.flag.ensures c.wide.ensures

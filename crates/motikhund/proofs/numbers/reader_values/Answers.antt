@@ -1,0 +1,6 @@
+-- `motikhund::numbers::reader_values` meets its contract: the row's three numbers between the others. Assumes nothing.
+use Rattle.motikhund.proofs.Telling.{reader_values_lem}
+use Rattle.motikhund.proofs.numbers.reader_values.Goals as goal
+
+pub returns : goal.returns
+returns c = reader_values_lem c.reader_row-row.ensures c.outcome_value-value.ensures c.flag.ensures c.wide-permanent.ensures

@@ -1,0 +1,9 @@
+-- `motikhund::tables::all_allowed` meets its contract: the present values, then the permanent ones. Assumes nothing.
+use Rattle.motikhund.proofs.Tabling.{both_allowed, not_allowed}
+use Rattle.motikhund.proofs.tables.all_allowed.Goals as goal
+
+pub returns-then-all_allowed : goal.returns-then-all_allowed
+returns-then-all_allowed c = both_allowed c.all_allowed.ensures c.if-all_allowed.true c.all_allowed-then-all_allowed.ensures
+
+pub returns : goal.returns
+returns c = not_allowed c.all_allowed.ensures c.if-all_allowed.false

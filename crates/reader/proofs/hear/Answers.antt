@@ -1,0 +1,26 @@
+-- `reader::hear` meets its contract: 13 twice, then nothing, a refusal of the framer, or a packet. Assumes nothing.
+use native.Mathlib.Omega.{arith}
+use Rattle.reader.proofs.Hearing.{hear_answer, hear_copy, hear_quiet, hear_refused, hear_packet}
+use Rattle.framer.proofs.TwoHalves.{listened_packet}
+use borrow.Author.Rules.{rules}
+use Rattle.reader.proofs.hear.Goals as goal
+
+pub returns-then-answer-lt-READER_ANSWER_SIZE : goal.returns-then-answer-lt-READER_ANSWER_SIZE
+returns-then-answer-lt-READER_ANSWER_SIZE c = hear_answer (omega arith) c.no_room.ensures
+
+pub returns-then-copy-lt-PACKET_SIZE : goal.returns-then-copy-lt-PACKET_SIZE
+returns-then-copy-lt-PACKET_SIZE c = hear_copy (omega arith) (omega arith) c.no_room-then-copy-lt-PACKET_SIZE.ensures
+
+pub received-requires : goal.received-requires
+received-requires c = let w = listened_packet c.listen-listened.ensures c.in-Packet.is in
+    let s = c.sound_core-in-Packet.ensures in
+    (s.few, s.long, search rules, search rules, w.least, w.most)
+
+pub returns-in-Nothing : goal.returns-in-Nothing
+returns-in-Nothing c = hear_quiet c.listen-listened.ensures (omega (arith, c.if-answer-lt-READER_ANSWER_SIZE.false)) (omega (arith, c.if-copy-lt-PACKET_SIZE.false)) c.in-Nothing.is c.quiet.ensures
+
+pub returns-in-Refused : goal.returns-in-Refused
+returns-in-Refused c = hear_refused c.listen-listened.ensures (omega (arith, c.if-answer-lt-READER_ANSWER_SIZE.false)) (omega (arith, c.if-copy-lt-PACKET_SIZE.false)) c.sound_core.ensures c.in-Refused.is c.no_packet.ensures c.settle.ensures
+
+pub returns-in-Packet : goal.returns-in-Packet
+returns-in-Packet c = hear_packet c.listen-listened.ensures (omega (arith, c.if-answer-lt-READER_ANSWER_SIZE.false)) (omega (arith, c.if-copy-lt-PACKET_SIZE.false)) c.sound_core-in-Packet.ensures c.in-Packet.is c.received.ensures

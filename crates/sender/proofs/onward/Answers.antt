@@ -1,0 +1,14 @@
+-- `sender::onward` meets its contract: the next packet, or delivered. Assumes nothing.
+use native.Mathlib.Omega.{arith}
+use Rattle.sender.proofs.Answering.{going_out_by, onward_next, onward_delivered}
+use Rattle.sender.proofs.Copying.{copies_as}
+use Rattle.sender.proofs.onward.Goals as goal
+
+pub present-size-requires : goal.present-size-requires
+present-size-requires c = (going_out_by c.args.buffer.now c.requires.0 (omega arith) (omega arith) c.next_size-size.ensures c.moved-next.ensures, omega arith, omega arith, omega arith)
+
+pub returns-then-end-whole : goal.returns-then-end-whole
+returns-then-end-whole c = onward_next c.requires.0 (omega arith) (omega arith) c.next_size-size.ensures c.moved-next.ensures (copies_as c.present-size.ensures)
+
+pub returns : goal.returns
+returns c = onward_delivered c.requires.0 (omega arith) (omega arith) c.ended.ensures
