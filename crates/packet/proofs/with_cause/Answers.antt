@@ -6,7 +6,7 @@ use Rattle.packet.proofs.Writing.{nak_source, nak_written}
 use Rattle.packet.proofs.with_cause.Goals as goal
 
 pub shape_of-room-then-source_allowed : goal.shape_of-room-then-source_allowed
-shape_of-room-then-source_allowed c = c.fill.auto.0 ∙ simp length-set
+shape_of-room-then-source_allowed c = c.fill.auto.room ∙ simp length-set
 
 pub returns-then-source_allowed : goal.returns-then-source_allowed
 returns-then-source_allowed c = nak_written (omega arith) c.source_allowed.ensures c.if-source_allowed.true c.fill.ensures

@@ -12,7 +12,7 @@ pub slice_bounds-copy-start : goal.slice_bounds-copy-start
 slice_bounds-copy-start c = simp length-set (omega arith)
 
 pub shape_of-room : goal.shape_of-room
-shape_of-room c = c.fill.auto.0 ∙ (c.room-1.given.1 ∙ simp length-set)
+shape_of-room c = c.fill.auto.room ∙ (c.room-1.given.1 ∙ simp length-set)
 
 pub returns : goal.returns
 returns c = copy_filled (copy_packed (omega arith) (omega arith) (omega arith) refl c.copy.ensures c.fill.ensures) c.size_of.ensures
