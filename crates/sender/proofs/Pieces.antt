@@ -206,7 +206,7 @@ cut_sizes (suc k) r h l e u f (more {b} {m} {ps} n c) =
     let front = length-take-le 250 m (omega arith) in
     let behind = length-drop 250 m in
     let on : Cut (take 250 m) (drop 250 m) ps = rw size at c in
-    rw (size, front, cut_sizes k r h l (omega arith) (uncut_drop u) (uncut_next u) on) refl
+    rw (size, front, cut_sizes {b = take 250 m} {m = drop 250 m} {ps = ps} k r h l (omega arith) (uncut_drop u) (uncut_next u) on) refl
 
 none_same : (m : List ℕ) → 250 < length m → same_bytes [] (take 250 m) ≡ false
 none_same m h = other_length [] (take 250 m) (λ z. let e = length-take-le 250 m (omega arith) in omega arith)

@@ -1,5 +1,6 @@
 -- `commands::named_by` meets its contract: one law for the opcodes, one for any other. Assumes nothing.
 use mathlib.Core.Path.{refl}
+use native.Mathlib.Omega.{arith}
 use Rattle.packet.specs.Opcodes.{param_send, param_request, param_defaults, start_session, stop_session, beep, led_on, led_off, scan_enable, scan_disable, aim_on, aim_off}
 use Rattle.commands.specs.Commands.{named_by}
 use Rattle.commands.proofs.Commanding.{named_at, named_none}
@@ -54,5 +55,5 @@ unfolding named_by
 returns-in-196 c = named_at aim_off c.in-196.is refl
 
 pub returns-in_default : goal.returns-in_default
-returns-in_default c = let n = c.in-198.rest in
-    named_none n.0.0.0.0.0.0.0.0.0.0.0.1 n.0.0.0.0.0.0.0.0.0.0.1 n.0.0.0.0.0.0.0.0.0.1 n.0.0.0.0.0.0.0.0.1 n.0.0.0.0.0.0.0.1 n.0.0.0.0.0.0.1 n.0.0.0.0.0.1 n.0.0.0.0.1 n.0.0.0.1 n.0.0.1 n.0.1 n.1
+returns-in_default c =
+    named_none (λ e. omega arith) (λ e. omega arith) (λ e. omega arith) (λ e. omega arith) (λ e. omega arith) (λ e. omega arith) (λ e. omega arith) (λ e. omega arith) (λ e. omega arith) (λ e. omega arith) (λ e. omega arith) (λ e. omega arith)
