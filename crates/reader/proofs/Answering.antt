@@ -39,9 +39,6 @@ use Rattle.table.proofs.Theorems.{answered_most}
 use Rattle.commands.specs.Promises.{device_of}
 use Rattle.commands.specs.declared.Command.{Command}
 use Rattle.commands.specs.declared.Command.TheVariants as command
-use Rattle.commands.specs.contracts.Command.{the_type}
-use denote.Enum.Declared.{tag_of}
-use types.Run.{OneOf, miss}
 use Rattle.commands.specs.declared.Beep.{Beep}
 use Rattle.commands.specs.declared.Device.{Device}
 use Rattle.reader.specs.Reader.{CoreState, Output, refused, answered, sent, reader_answer_size, handshake, if_handshake, request_bytes, refuses, no_packet_step, is_request, answer_to, sender_hears}
@@ -189,14 +186,10 @@ module _ {n : ℕ} {room room' : List ℕ} (d : Device) (k : Command) (carried :
   unfolding answer_to
   answers_ack e w = simp e w
 
--- The tags of the other commands.
-abbrev pub others : List ℕ
-others = 0 ∷ 2 ∷ 3 ∷ 4 ∷ 5 ∷ 6 ∷ 7 ∷ 8 ∷ 9 ∷ 10 ∷ 11 ∷ []
-
-pub no_request : (k : Command) → OneOf others (tag_of the_type k) → is_request k ≡ false
+pub no_request : (k : Command) → (k ≡ command.ParamRequest → ⊥) → is_request k ≡ false
 unfolding is_request
 no_request command.ParamSend h = refl
-no_request command.ParamRequest h = absurd (miss others 1 tt h)
+no_request command.ParamRequest h = absurd (h refl)
 no_request command.ParamDefaults h = refl
 no_request command.StartSession h = refl
 no_request command.StopSession h = refl

@@ -11,4 +11,4 @@ returns-in-ParamRequest c = let a = c.args in
 
 pub returns : goal.returns
 returns c = let a = c.args in
-    answers_ack a.device a.command a.«data».now (no_request a.command c.in-ParamRequest.keys2) c.ack.ensures
+    answers_ack a.device a.command a.«data».now (no_request a.command c.in_default.not-ParamRequest) c.ack.ensures
