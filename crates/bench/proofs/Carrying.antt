@@ -61,6 +61,7 @@ pub data Carries (code : ℕ) (whole : List ℕ) : Gathered → List (List ℕ) 
 -- The packet behind one that is added is another one.
 carry_on : {code : ℕ} {whole : List ℕ} {g g' : Gathered} {p : List ℕ} {ps : List (List ℕ)} → Sendable p → Moves g p added g' → Apart (p ∷ ps) → Carries code whole g' ps →
     Carries code whole g (p ∷ ps)
+carry_on s m apart.lone k = elim k [ ]
 carry_on s m (apart.next n a) k = goes s m n k
 
 -- ---- one piece

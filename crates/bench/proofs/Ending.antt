@@ -42,12 +42,13 @@ module _ {code : ℕ} {bytes : List ℕ} {log : List Begun} {xs : List Message} 
   unfolding played
   tries_end {n = zero} [] l none c = c
   tries_end {n = suc n} [] l none c = absurd (omega arith)
-  tries_end {n = zero} (t ∷ ts) l (one f fs) c = tries_end ts (omega arith) fs (course_rests t c)
-  tries_end {n = suc n} (t ∷ ts) l (one f fs) c = tries_end ts (omega arith) fs (course_step f c)
+  tries_end {n = zero} {b = b} (t ∷ ts) l (one f fs) c = tries_end {n = zero} {b = bench_step b (attempt t)} ts (omega arith) fs (course_rests t c)
+  tries_end {n = suc n} {b = b} (t ∷ ts) l (one f fs) c = tries_end {n = n} {b = bench_step b (attempt t)} ts (omega arith) fs (course_step f c)
 
 -- ---- what becomes of it
 
 bad_good : {ts : List Try} → Each Bad ts → Some Good ts → ⊥
+bad_good none g = elim g [ ]
 bad_good (one b bs) (here g) = never (cc)
 bad_good (one b bs) (behind g) = bad_good bs g
 

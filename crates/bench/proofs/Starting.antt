@@ -60,6 +60,7 @@ begun_goes : {log : List Begun} {f : Bool} {j : Joiner} {qs : List (List ℕ)} (
     length m ≤ message_size → waits s ≡ false → s.failed ≡ f → Past log ms → Rested log s.last f j → packets_of code m ≡ qs → Carries code m joiner.none qs →
     Course code m log ms r (length qs * 3) (bench_step (bench_of r j s (record { copy = []; log = log }) ms) (start code m))
 unfolding in_order on_line
+begun_goes {qs = []} r s ms code m few w q past k e n = elim n [ ]
 begun_goes {log} {f} {qs = p ∷ ps} r s ms code m few w q past k e n =
     let c = first_sendable n in
     let least = c.body.least in

@@ -125,7 +125,7 @@ acknowledged_goes r g k t c w h came_out a l =
 
 -- Each of the three rounds goes on with the message.
 round_goes : {n code : ℕ} {bytes p : List ℕ} {ps : List (List ℕ)} {ts : List Try} {older : List Tried} {log : List Begun} {xs ms : List Message}
-    {gathered : Gathered} {r : ReaderState} {j : Joiner} {o : Output} {b : Bench} (g : Bool) (k : ℕ) (t : Try) →
+    {gathered : Gathered} {r : ReaderState} {j : Joiner} {o : Output} (g : Bool) (k : ℕ) (t : Try) {b : Bench} →
     Out code bytes p ps ts older log → HandsOut log xs → Has code bytes p ps xs ts j ms → Onward code bytes p gathered ps xs (handing (joiner.acknowledged o) ms) →
     ApartWith code bytes g p older log → to_come ps ts ≤ suc n →
     Round r (busy p ps (length ts) k) (copy_of ts p) (present code bytes g out p (length ts) ts older ∷ log) j (free p gathered) o ms t b →
