@@ -1,8 +1,6 @@
-pub mod Altering
 pub mod Blocks
 pub mod Calls
 pub mod InPlace
-pub mod Lending
 pub mod Reading
 pub mod Refusing
 pub mod ShortWay

@@ -29,7 +29,7 @@ carry-at-requires c = let g = c.loop-at.invariant.leads _ _ _ _ _ c.packets.inva
 pub overflow_add-at : goal.overflow_add-at
 overflow_add-at c = let g = c.loop-at.invariant.leads _ _ _ _ _ c.packets.invariant in
     let w = (goes_silent g c.carry-at.ensures).reading.within in
-    omega (arith, w, c.well-formed.1.1.1.1.1.0)
+    omega (arith, w, c.well_formed.1.1.1.1.1.0)
 
 pub bounds-bytes-at : goal.bounds-bytes-at
 bounds-bytes-at c = let g = c.loop-at.invariant.leads _ _ _ _ _ c.packets.invariant in
@@ -51,7 +51,7 @@ slice_bounds-mk_hub_hear-start c = let g = c.loop-at.invariant.leads _ _ _ _ _ c
 pub overflow_add-at-in-loop-at : goal.overflow_add-at-in-loop-at
 overflow_add-at-in-loop-at c = let g = c.loop-at.invariant.leads _ _ _ _ _ c.packets.invariant in
     let w = before_end _ _ (goes_silent g c.carry-at.ensures).reading.within c.if-at-bytes.false in
-    omega (arith, w, c.well-formed.1.1.1.1.1.0)
+    omega (arith, w, c.well_formed.1.1.1.1.1.0)
 
 pub overflow_add-out : goal.overflow_add-out
 overflow_add-out c = let g = c.loop-at.invariant.leads _ _ _ _ _ c.packets.invariant in
@@ -63,7 +63,7 @@ overflow_add-out c = let g = c.loop-at.invariant.leads _ _ _ _ _ c.packets.invar
     let h = event g k (still_long g c.requires.0) full small c.mk_hub_hear-number.ensures in
     let f = out_fits g k end full small h in
     let e = room_length g.goes in
-    omega (arith, f, e, c.well-formed.1.1.1.0.0)
+    omega (arith, f, e, c.well_formed.1.1.1.0.0)
 
 pub overflow_sub-answer : goal.overflow_sub-answer
 overflow_sub-answer c = let g = c.loop-at.invariant.leads _ _ _ _ _ c.packets.invariant in
@@ -126,7 +126,7 @@ returns-after-packets c = record { takes = takes_all c.requires.1 c.requires.2 c
 
 pub shape_of-control-then-at-bytes : goal.shape_of-control-then-at-bytes
 shape_of-control-then-at-bytes c = let g = c.loop-at.invariant.leads _ _ _ _ _ c.packets.invariant in
-    c.carry-at.auto.0 ∙ going_long g c.requires.0
+    c.carry-at.auto.control ∙ going_long g c.requires.0
 
 pub shape_of-answer-then-at-bytes : goal.shape_of-answer-then-at-bytes
 shape_of-answer-then-at-bytes c = let g = c.loop-at.invariant.leads _ _ _ _ _ c.packets.invariant in
@@ -142,7 +142,7 @@ returns-then-at-bytes c = let g = c.loop-at.invariant.leads _ _ _ _ _ c.packets.
 
 pub shape_of-control-then-leaving : goal.shape_of-control-then-leaving
 shape_of-control-then-leaving c = let g = c.loop-at.invariant.leads _ _ _ _ _ c.packets.invariant in
-    c.mk_hub_hear-number.auto.0 ∙ (c.carry-at.auto.0 ∙ going_long g c.requires.0)
+    c.mk_hub_hear-number.auto.control ∙ (c.carry-at.auto.control ∙ going_long g c.requires.0)
 
 pub shape_of-answer-then-leaving : goal.shape_of-answer-then-leaving
 shape_of-answer-then-leaving c = let g = c.loop-at.invariant.leads _ _ _ _ _ c.packets.invariant in
@@ -156,7 +156,7 @@ shape_of-answer-then-leaving c = let g = c.loop-at.invariant.leads _ _ _ _ _ c.p
 
 pub shape_of-message-then-leaving : goal.shape_of-message-then-leaving
 shape_of-message-then-leaving c = let g = c.loop-at.invariant.leads _ _ _ _ _ c.packets.invariant in
-    c.mk_hub_hear-number.auto.1.1.1.1.0 ∙ ap length (message_same g.goes)
+    c.mk_hub_hear-number.auto.message ∙ ap length (message_same g.goes)
 
 pub returns-then-leaving : goal.returns-then-leaving
 returns-then-leaving c = let g = c.loop-at.invariant.leads _ _ _ _ _ c.packets.invariant in
