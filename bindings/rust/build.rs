@@ -11,7 +11,7 @@ fn main() {
     let library = directory.join("libmotikhund.a");
     println!("cargo:rerun-if-env-changed=MOTIKHUND_LIB");
     println!("cargo:rerun-if-changed={}", library.display());
-    assert!(library.is_file(), "no {}: make it with `rt staticlib motikhund`, or set MOTIKHUND_LIB", library.display());
+    assert!(library.is_file(), "no {}: make it with `bindings/archive`, or set MOTIKHUND_LIB", library.display());
     println!("cargo:rustc-link-search=native={}", directory.display());
     println!("cargo:rustc-link-lib=static=motikhund");
 }

@@ -1,8 +1,7 @@
 -- A message that is begun ends within three tries for each of its packets: each try leaves one less to come. One that failed had three bad tries of one
 -- packet, so one whose packets all got through was delivered. Assumes nothing.
 use Prim.Native.Nat.{ℕ, zero, suc, ◌*◌, ◌≤◌, ◌<◌}
-use mathlib.Core.Path.{◌≡◌, refl, sym, ap, ◌∙◌}
-use mathlib.Core.Bool.{Bool, true, false}
+use mathlib.Core.Path.{◌≡◌, refl}
 use mathlib.Core.List.{List, [], ◌∷◌, map}
 use native.Mathlib.Omega.{arith}
 use lib.ListN.{length}
@@ -19,7 +18,7 @@ use Rattle.bench.specs.Delivery.{Ready, HandsOut, Bad, LostOut, three, Honest}
 use Rattle.bench.specs.Ends.{Some, here, behind, Good, GotThrough, Ends}
 use Rattle.bench.proofs.Demand3.{run_stands}
 use Rattle.bench.proofs.Rounds.{bench_of}
-use Rattle.bench.proofs.Standing.{Past, Finished, Stands, at_rest, at_work, Standing, Course, still_out, ended}
+use Rattle.bench.proofs.Standing.{Stands, at_rest, at_work, Course, still_out, ended}
 use Rattle.bench.proofs.Starting.{rest_goes}
 use Rattle.bench.proofs.Trying.{try_goes, copy_some}
 

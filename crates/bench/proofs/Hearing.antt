@@ -28,7 +28,7 @@ use Rattle.hub.proofs.Calm.{Calm, ends, gap, calm_append, calm_bytes, calm_run}
 use Rattle.sender.specs.Sender.{SenderState, sending, some, Sent, fails, resends, out_step, sender_step, heed_of}
 use Rattle.sender.specs.declared.Heard.TheVariants as heard
 use Rattle.sender.specs.declared.Heard.{Heard as ForSender}
-use Rattle.reader.specs.Reader.{ReaderState, CoreState, Output, sent, refused, no_packet_step, sender_hears, packet_step, heard_step, reader_step, with_core, time_out}
+use Rattle.reader.specs.Reader.{ReaderState, CoreState, Output, sent, no_packet_step, sender_hears, packet_step, heard_step, reader_step, with_core, time_out}
 use Rattle.reader.specs.Promises.{sent_of}
 use Rattle.reader.proofs.Answering.{sent_sent}
 use Rattle.bench.specs.Bench.{Fate, whole, left, gap_after, arrives, answers_in, in_time}

@@ -1,7 +1,7 @@
 -- One try on the bench, whatever becomes of copy and answer, comes to one of three things: the hub took the copy and the sender hears its
 -- ACK; the hub took it and the sender asks again; or the hub is as it was and the sender asks again. Assumes nothing.
 use Prim.Native.Nat.{ℕ, ◌≤◌}
-use mathlib.Core.Path.{◌≡◌, refl, ap, ◌∙◌}
+use mathlib.Core.Path.{◌≡◌, refl, ap}
 use mathlib.Core.Bool.{Bool, false}
 use mathlib.Core.List.{List, [], ◌∷◌, flat_map, append-nil}
 use native.Mathlib.Omega.{arith}

@@ -9,7 +9,7 @@ use native.Mathlib.Omega.{arith}
 use lib.Dec.{eqb}
 use lib.ListN.{length, get_or, replicate}
 use borrow.Author.Tests.{eq-eqb}
-use Rattle.words.specs.Lists.{pick, either, same_bytes, Each, none, one}
+use Rattle.words.specs.Lists.{pick, either, same_bytes, Each, none}
 use Rattle.words.specs.Machine.{through}
 use Rattle.words.proofs.Lists.{same_refl, same_equal, never}
 use Rattle.packet.specs.Opcodes.{host}
@@ -24,7 +24,7 @@ use Rattle.hub.proofs.Theorems.{idle}
 use Rattle.sender.specs.Sender.{SenderState}
 use Rattle.sender.specs.Pieces.{packets_of}
 use Rattle.reader.specs.Reader.{ReaderState}
-use Rattle.bench.specs.Bench.{Try, Tried, Ending, delivered, failed, out, Begun, Message, Sheet, Bench, handing, hub_answers, gap_first}
+use Rattle.bench.specs.Bench.{Try, Tried, Ending, delivered, out, Begun, Message, Sheet, Bench, handing, hub_answers, gap_first}
 use Rattle.bench.specs.Delivery.{OnLine, sent, gap, gap_of, on_line, apart, message_of, HandsOut, handed, passed_over, Thrice, Bad, Honest, in_order, Sends}
 use Rattle.bench.proofs.Carrying.{free, Copy, first, another, New, Sendable, Carries, Onward, goes_on_lem, came_out, next}
 use Rattle.bench.proofs.Hearing.{busy}

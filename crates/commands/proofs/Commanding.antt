@@ -12,20 +12,20 @@ use Rattle.packet.specs.Opcodes as opcode
 use Rattle.packet.specs.Packet.{permanent_bit}
 use Rattle.packet.specs.declared.Refusal.{Refusal}
 use Rattle.packet.specs.declared.Refusal.TheVariants as refusal
-use Rattle.table.specs.Table.{send_length_allowed, Outcome, done, refused}
-use Rattle.table.specs.Promises.{values_of, changed_of, Sets, SendLengthAllowed}
+use Rattle.table.specs.Table.{Outcome, done, refused}
+use Rattle.table.specs.Promises.{values_of, changed_of, Sets}
 use Rattle.table.specs.declared.Table.{Table}
 use Rattle.table.specs.declared.Changed.{Changed}
 use Rattle.table.specs.declared.Verdict.TheVariants as set
 use Rattle.table.proofs.Setting.{odd_read}
 use Rattle.table.proofs.Answering.{either_false}
 use Rattle.commands.specs.Beeps.{beep_rows, beep_limit, beep_allowed, send_beep_allowed, row_of}
-use Rattle.commands.specs.Commands.{DeviceState, Acted, denied, acted, named_by, length_allowed, session_started, scanning_to, led_to, reported, after_send, send_command, beep_command, effect, judged}
+use Rattle.commands.specs.Commands.{Acted, denied, acted, named_by, length_allowed, session_started, scanning_to, led_to, reported, after_send, send_command, beep_command, effect, judged}
 use Rattle.commands.specs.Promises.{beep_of, device_of, commanded_of, Names, LengthAllowed, SendBeepAllowed, Reports, Fit, Commands, StartsSession, Scans, Lights, Acts}
 use Rattle.commands.specs.declared.Command.{Command}
 use Rattle.commands.specs.declared.Command.TheVariants as command
 use Rattle.commands.specs.declared.Named.{Named}
-use Rattle.commands.specs.declared.Named.TheVariants.{Unknown, Known}
+use Rattle.commands.specs.declared.Named.TheVariants.{Unknown}
 use Rattle.commands.specs.declared.Switches.{Switches}
 use Rattle.commands.specs.declared.Beep.{Beep}
 use Rattle.commands.specs.declared.Beep.TheVariants as beep

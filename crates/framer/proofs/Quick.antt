@@ -23,7 +23,6 @@ use Rattle.framer.specs.Promises.{begun_of, line_of, Begun, Frames}
 use Rattle.framer.specs.Halves.{line_size, place_of, half_of, line_in, halves_with, tells_nothing, goes_on, going_by, GoesOn, on, left, Listens, Inside, Place}
 use Rattle.framer.specs.declared.Event.{Event}
 use Rattle.framer.specs.declared.Event.TheVariants.{Byte, CharacterGap, MessageGap}
-use Rattle.framer.specs.declared.Found.{Found}
 use Rattle.framer.specs.declared.Found.TheVariants.{Nothing}
 use Rattle.framer.specs.declared.Framer.{Framer}
 use Rattle.framer.specs.declared.Going.{Going}

@@ -1,5 +1,5 @@
 -- Many bytes at once: bytes that are moved inside a packet, or ignored, are as many events of which nothing is told. Assumes nothing.
-use Prim.Native.Nat.{ℕ, zero, suc, ◌+◌, ◌-◌, ◌≤◌, ◌<◌}
+use Prim.Native.Nat.{ℕ, suc, ◌+◌, ◌-◌, ◌≤◌, ◌<◌}
 use mathlib.Core.Path.{◌≡◌, refl, sym, ap, ◌∙◌}
 use mathlib.Core.Bool.{Bool, true, false}
 use mathlib.Core.Logic.{◌⊎◌, inl, inr}
@@ -12,25 +12,21 @@ use lib.Seq.{length-take-le, get_or-take, take-length, drop-length, set_split, d
 use lib.Dec.{eqb, ltb}
 use borrow.Author.Tests.{eq-eqb, ne_eqb, eqb-true, eqb-false, ltb-true, ltb-false}
 use Rattle.words.specs.Lists.{pick, Bytes, Wide, Copied, over_at}
-use Rattle.words.specs.Machine.{Done, after, through}
+use Rattle.words.specs.Machine.{after, through}
 use Rattle.words.proofs.Lists.{bytes_take, bytes_drop, bytes_append, bytes_cons, bytes_head, bytes_tail, set_over_at, over_at_behind, rest_part, back, part_over, copied_over}
 use Rattle.packet.specs.Packet.{check_of}
 use Rattle.packet.specs.Sizes.{packet_size}
-use Rattle.packet.specs.declared.Refusal.TheVariants.{Cut}
-use Rattle.packet.specs.declared.Checked.TheVariants as checked
-use Rattle.packet.proofs.Theorems.{few_cut}
-use Rattle.framer.specs.Framer.{Line, hearing, deaf, Heard, silent, judged, at_byte, framer_step}
+use Rattle.framer.specs.Framer.{hearing, silent, judged, at_byte, framer_step}
 use Rattle.framer.specs.Promises.{Begun, Deaf}
 use Rattle.framer.specs.Halves.{line_size, place_of, half_of, line_in, kept_in, halves_with, listened_of, buffer_after, moved_of, Listens, Place, Moved}
-use Rattle.framer.specs.Silence.{LineAt, listen_step, silent_for, TakesIn, HeardSo, length_of, LengthOf, InsideOf}
+use Rattle.framer.specs.Silence.{listen_step, silent_for, TakesIn, HeardSo, length_of, LengthOf, InsideOf}
 use Rattle.framer.specs.declared.Event.TheVariants.{Byte}
 use Rattle.framer.specs.declared.Found.TheVariants.{Nothing}
 use Rattle.framer.specs.declared.Framer.{Framer}
 use Rattle.framer.specs.declared.Halves.{Halves}
 use Rattle.framer.specs.declared.Framed.{Framed}
 use Rattle.framer.specs.declared.Listened.{Listened}
-use Rattle.framer.specs.declared.TakenIn.{TakenIn}
-use Rattle.framer.proofs.Steps.{begun_count, line_hearing, line_deaf, byte_deaf}
+use Rattle.framer.proofs.Steps.{begun_count, line_hearing, byte_deaf}
 use Rattle.framer.proofs.Quick.{still, low_told, whole_told_lem, inside_stored, First}
 use Rattle.framer.proofs.Touching.{set_back}
 use Rattle.framer.proofs.TwoHalves.{line_listened, kept_listened, listened_nothing, place_most}

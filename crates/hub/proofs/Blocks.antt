@@ -9,7 +9,7 @@ use native.Mathlib.Numerals.{add-one}
 use native.Mathlib.Omega.{arith}
 use lib.Dec.{eqb, ltb}
 use lib.ListN.{length, get_or, take, drop, length-append, length-take, length-drop, length-map, take-append-drop, drop_of_length-le}
-use lib.Seq.{length-take-le, take-add, take-suc, drop-cons, drop-drop, drop-length, take-length}
+use lib.Seq.{length-take-le, take-add, take-suc, drop-cons, drop-drop}
 use borrow.Author.Tests.{lt-ltb, le-ltb, ltb-true, ltb-false}
 use Rattle.words.specs.Lists.{pick, either, over}
 use Rattle.words.specs.Machine.{Done, after, through, given, reach}
@@ -24,7 +24,7 @@ use Rattle.packet.specs.declared.Refusal.TheVariants as refusal
 use Rattle.packet.specs.declared.Reply.TheVariants.{Ack, Nak}
 use Rattle.framer.specs.Framer.{Heard, silent, framer_step}
 use Rattle.framer.specs.Behind.{framed}
-use Rattle.framer.specs.Halves.{line_in, kept_in, listened_of, buffer_after, tells_nothing}
+use Rattle.framer.specs.Halves.{line_in, listened_of, buffer_after, tells_nothing}
 use Rattle.framer.specs.Silence.{LineAt, listen_step, TakesIn}
 use Rattle.framer.specs.declared.Event.{Event}
 use Rattle.framer.specs.declared.Event.TheVariants.{Byte}
@@ -33,7 +33,7 @@ use Rattle.framer.specs.declared.TakenIn.{TakenIn}
 use Rattle.framer.proofs.Behind.{framed_run}
 use Rattle.hub.specs.Joiner.{Joiner, Output, added, repeated, handed, refused, answered, refusing, barring}
 use Rattle.hub.specs.Hub.{HubState, heard_step, hub_step}
-use Rattle.hub.specs.Promises.{told_of, answer_of, message_of, sound_of, joiner_of, state_of, accepts, control_after, cleared_control, hub_answer_size, too_small, Hears}
+use Rattle.hub.specs.Promises.{told_of, answer_of, message_of, sound_of, joiner_of, state_of, accepts, control_after, hub_answer_size, too_small, Hears}
 use Rattle.hub.specs.Block.{block_size, all_of, sent_by, answers_of, hands_out, named_by, names_of, last_of, name_of, leaves, too_long, taken_of, block_told_of, HubAt, state_at, hear_step, run_of, left_by, Block, TakesBytes, HearsBlock}
 use Rattle.hub.specs.declared.Hub.{Hub}
 use Rattle.hub.specs.declared.Told.{Told}

@@ -1,5 +1,5 @@
 -- Blocks, however the bytes are cut into calls, do what the bytes do one by one. Assumes nothing.
-use Prim.Native.Nat.{ℕ, suc, ◌+◌, ◌-◌, ◌≤◌, ◌<◌}
+use Prim.Native.Nat.{ℕ, ◌-◌, ◌≤◌, ◌<◌}
 use mathlib.Core.Path.{◌≡◌, refl, sym, ap, ◌∙◌}
 use mathlib.Core.Bool.{Bool, true, false}
 use mathlib.Core.List.{List, [], ◌∷◌, ◌++◌, map, map-append, append_assoc, append-nil}
@@ -8,23 +8,21 @@ use lib.Dec.{ltb}
 use lib.ListN.{length, take, drop, length-take, length-map, take-append-drop}
 use lib.Seq.{take-take}
 use borrow.Author.Tests.{lt-ltb, le-ltb, ltb-true, ltb-false}
-use Rattle.words.specs.Lists.{pick, either, over}
+use Rattle.words.specs.Lists.{either, over}
 use Rattle.words.specs.Machine.{Done, after, through, given, reach}
 use Rattle.words.proofs.Lists.{never, take_over}
 use Rattle.words.proofs.Machine.{through_append, through_one, reach_one, reach_stopped, reach_most}
 use Rattle.packet.specs.Opcodes.{host}
 use Rattle.packet.specs.Refusals.{number_of, nak_bytes}
-use Rattle.packet.specs.Packet.{seal, reply_body}
 use Rattle.packet.specs.Sizes.{message_size}
 use Rattle.packet.specs.declared.Refusal.{Refusal}
 use Rattle.packet.specs.declared.Refusal.TheVariants as refusal
-use Rattle.packet.specs.declared.Reply.TheVariants.{Ack}
-use Rattle.framer.specs.Framer.{Line, hearing, deaf, framer_step, at_byte}
+use Rattle.framer.specs.Framer.{deaf, framer_step, at_byte}
 use Rattle.framer.specs.Behind.{framed}
 use Rattle.framer.specs.declared.Event.{Event}
 use Rattle.framer.specs.declared.Event.TheVariants.{Byte}
-use Rattle.hub.specs.Joiner.{Joiner, Output, added, repeated, handed, refused, answered, refusing, bytes_of, type_in, piece_in, barring}
-use Rattle.hub.specs.Hub.{HubState, heard_step, cleared, hub_step}
+use Rattle.hub.specs.Joiner.{Joiner, Output, handed, answered, refusing, bytes_of, type_in, piece_in, barring}
+use Rattle.hub.specs.Hub.{HubState, cleared, hub_step}
 use Rattle.hub.specs.Promises.{told_of, answer_of, message_of, state_of, hub_answer_size, too_small, Hears}
 use Rattle.hub.specs.Block.{all_of, answers_of, hands_out, names_of, last_of, name_of, leaves, too_long, taken_of, block_told_of, HubAt, state_at, hear_step, Block, HearsBlock}
 use Rattle.hub.specs.Cuts.{Message, handed_by, messages_of, message_in, OneByOne, none, one, InBlocks, call, Brings}

@@ -1,9 +1,7 @@
 -- §22: what is left and brought by blocks, however the bytes are cut into calls, and by the same bytes one by one.
-use Rattle.std.specs.Prelude.{ℕ, false, List, [], ◌∷◌, ◌++◌, map, ◌≡◌, length, take, drop}
-use Rattle.words.specs.Lists.{pick}
+use Rattle.std.specs.Prelude.{ℕ, false, List, [], ◌∷◌, ◌++◌, ◌≡◌, take, drop}
 use Rattle.words.specs.Machine.{through}
 use Rattle.framer.specs.declared.Event.{Event}
-use Rattle.framer.specs.declared.Event.TheVariants.{Byte}
 use Rattle.hub.specs.Joiner.{Output, added, repeated, handed, refused, answered}
 use Rattle.hub.specs.Hub.{hub_step}
 use Rattle.hub.specs.Promises.{too_small, Hears}

@@ -6,7 +6,7 @@ use mathlib.Core.List.{List, [], ◌∷◌, ◌++◌, append-nil}
 use native.Mathlib.Omega.{arith}
 use lib.ListN.{length, take}
 use borrow.Author.Tests.{le-leb}
-use Rattle.words.specs.Lists.{over, over_at}
+use Rattle.words.specs.Lists.{over_at}
 use Rattle.words.specs.Machine.{after, through}
 use Rattle.words.proofs.Lists.{take_over}
 use Rattle.words.proofs.Machine.{through_append}

@@ -15,7 +15,7 @@ use Rattle.packet.specs.declared.Refusal.{Refusal}
 use Rattle.packet.specs.declared.Refusal.TheVariants as refusal
 use Rattle.hub.specs.Joiner.{Output, added, repeated, handed, refused, answered}
 use Rattle.hub.specs.Promises.{message_of, too_small}
-use Rattle.hub.specs.Block.{all_of, answers_of, last_of, name_of, too_long, taken_of, block_told_of, HubAt, run_of, Block, HearsBlock}
+use Rattle.hub.specs.Block.{all_of, last_of, name_of, too_long, taken_of, block_told_of, HubAt, run_of, Block, HearsBlock}
 use Rattle.hub.specs.declared.Hub.{Hub}
 use Rattle.hub.specs.declared.Told.{Told}
 use Rattle.hub.specs.declared.Told.TheVariants as told

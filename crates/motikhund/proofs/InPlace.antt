@@ -6,7 +6,6 @@ use mathlib.Core.List.{List, [], ◌∷◌}
 use lib.ListN.{length, get_or}
 use Rattle.words.specs.Machine.{through, after}
 use Rattle.words.proofs.Lists.{both_left, both_right}
-use Rattle.packet.specs.Refusals.{number_of}
 use Rattle.packet.specs.declared.Refusal.{Refusal}
 use Rattle.table.specs.Rows.{parameter_count, rows, place_of, supported}
 use Rattle.table.specs.Table.{Values, Outcome, done, refused, read_pairs, set_pairs, set_defaults, power_up}
@@ -20,7 +19,7 @@ use Rattle.reader.specs.Promises.{state_of}
 use Rattle.reader.proofs.Loading.{with_table_state}
 use Rattle.motikhund.specs.Control.{reader_in}
 use Rattle.motikhund.specs.Numbers.{settled_number}
-use Rattle.motikhund.specs.Tables.{table_of, values_in, struct_of, with_values, struct_after, all_allowed, reader_after, PutsInto, SetsTable, DefaultsTable, PowersUpTable, Asked, list, to_defaults, to_power_up, settled, step_of, table_step, Alters, sets, defaulted, powered, InARow, none, next}
+use Rattle.motikhund.specs.Tables.{table_of, values_in, struct_of, with_values, struct_after, all_allowed, reader_after, PutsInto, SetsTable, Asked, list, to_defaults, to_power_up, settled, step_of, table_step, Alters, sets, defaulted, powered, InARow, none, next}
 use Rattle.motikhund.specs.declared.tables.MkTable.{MkTable}
 use Rattle.motikhund.proofs.Reading.{flags_back}
 

@@ -1,15 +1,14 @@
 -- What the calls on a table that is kept as a struct leave, from what the table's own calls promise. Assumes nothing.
 use Prim.Native.Nat.{ℕ, ◌≤◌}
-use mathlib.Core.Path.{◌≡◌, refl, sym, ap, ◌∙◌}
-use mathlib.Core.Bool.{Bool, true, false, not}
+use mathlib.Core.Path.{◌≡◌, refl, sym, ◌∙◌}
+use mathlib.Core.Bool.{Bool, true, false}
 use mathlib.Core.List.{List, [], ◌∷◌, append-nil}
 use native.Mathlib.Omega.{arith}
 use lib.ListN.{length, drop_of_length-le}
 use lib.Seq.{take_all}
-use Rattle.words.specs.Lists.{pick, both, over}
-use Rattle.packet.specs.Refusals.{number_of}
+use Rattle.words.specs.Lists.{over}
 use Rattle.packet.specs.declared.Refusal.TheVariants as refusal
-use Rattle.table.specs.Rows.{parameter_count, rows}
+use Rattle.table.specs.Rows.{parameter_count}
 use Rattle.table.specs.Table.{Outcome as Settled, done, refused, read_pairs, set_pairs}
 use Rattle.table.specs.Promises.{values_of, changed_of, Sets, SetsDefaults, PowerUp}
 use Rattle.table.specs.declared.Table.{Table}

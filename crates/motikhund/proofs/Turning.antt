@@ -6,9 +6,9 @@ use mathlib.Core.Bool.{Bool, true, false}
 use mathlib.Core.List.{List, [], ◌∷◌, ◌++◌}
 use native.Mathlib.Omega.{arith}
 use lib.Dec.{eqb, ltb}
-use lib.ListN.{length, get_or, take, drop, length-append, length-take, length-drop}
+use lib.ListN.{length, get_or, take, drop, length-take, length-drop}
 use borrow.Author.Tests.{eq-eqb, ne_eqb, lt-ltb, le-ltb, le-leb}
-use Rattle.words.specs.Lists.{pick, either, over}
+use Rattle.words.specs.Lists.{pick, over}
 use Rattle.words.proofs.Lists.{never, over_over, length_over, back}
 use Rattle.packet.specs.Refusals.{number_of}
 use Rattle.packet.specs.Sizes.{message_size}
@@ -18,15 +18,14 @@ use Rattle.framer.specs.Silence.{TakesIn}
 use Rattle.framer.specs.declared.TakenIn.{TakenIn}
 use Rattle.hub.specs.Joiner.{Output, added, repeated, handed, refused, answered}
 use Rattle.hub.specs.Promises.{hub_answer_size, too_small, Hears}
-use Rattle.hub.specs.Block.{block_size, all_of, hands_out, last_of, name_of, Block, HearsBlock}
+use Rattle.hub.specs.Block.{block_size, all_of, hands_out, last_of, name_of}
 use Rattle.hub.specs.declared.Hub.{Hub}
-use Rattle.hub.specs.declared.Taken.{Taken}
 use Rattle.hub.specs.declared.Told.{Told}
 use Rattle.hub.specs.declared.Told.TheVariants as told
-use Rattle.hub.proofs.Blocks.{named_as, name_refused, leaves_at, Leaves, Names, Carried, Carries, Reads, Goes, Turn, carries, room_open, goes_first, goes_on_lem, message_same, turns, answer_fits, answer_length, goes_again, no_message_yet, reads_all, reads_turn, block_read}
-use Rattle.motikhund.specs.Lent.{at_least, Enough, none, more}
+use Rattle.hub.proofs.Blocks.{named_as, name_refused, leaves_at, Leaves, Carried, Carries, Reads, Goes, Turn, carries, room_open, goes_first, goes_on_lem, message_same, turns, answer_fits, answer_length, goes_again, no_message_yet, reads_all, reads_turn, block_read}
+use Rattle.motikhund.specs.Lent.{none, more}
 use Rattle.motikhund.specs.Control.{hub_control_size, half_bytes, number_bytes, framer_bytes, halves_bytes, gathering_bytes, hub_in, hub_bytes, HubIn, PutsHub}
-use Rattle.motikhund.specs.Numbers.{is_event, event_of, hub_number, hub_values, block_values}
+use Rattle.motikhund.specs.Numbers.{is_event, event_of, hub_number, hub_values}
 use Rattle.motikhund.specs.Promises.{HubTakes, HubHears, HubTakesBlock}
 use Rattle.motikhund.specs.Blocks.{CarriesBytes, NamesNumber, LeavesNumber}
 use Rattle.motikhund.proofs.Calls.{hub_kept}

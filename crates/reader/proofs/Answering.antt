@@ -26,7 +26,6 @@ use Rattle.framer.specs.declared.Halves.{Halves}
 use Rattle.sender.specs.Sender.{Sent, sender_step}
 use Rattle.sender.specs.Promises as sending
 use Rattle.sender.specs.declared.Heard.{Heard}
-use Rattle.sender.specs.declared.Outcome.TheVariants as outcome
 use Rattle.sender.specs.declared.Sender.{Sender}
 use Rattle.sender.specs.declared.Sending.{Sending}
 use Rattle.table.specs.Rows.{pairs_size}

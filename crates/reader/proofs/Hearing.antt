@@ -36,7 +36,6 @@ use Rattle.framer.proofs.TwoHalves.{line_listened, kept_listened, listened_nothi
 use Rattle.sender.specs.Sender.{SenderState, waits, Sent, sender_step}
 use Rattle.sender.specs.Promises as sending
 use Rattle.sender.specs.declared.Sender.{Sender}
-use Rattle.sender.specs.declared.Heard.{Heard}
 use Rattle.table.specs.Rows.{pairs_size}
 use Rattle.table.specs.Table.{answer_data}
 use Rattle.table.proofs.Theorems.{answer_most}
@@ -45,7 +44,7 @@ use Rattle.commands.specs.declared.Command.{Command}
 use Rattle.commands.specs.declared.Named.{Named}
 use Rattle.commands.specs.declared.Named.TheVariants.{Unknown, Known}
 use Rattle.reader.specs.Reader.{CoreState, Output, refused, repeated, beeped, switched, answered, sent, reader_answer_size, handshake, if_handshake, request_bytes, refuses, no_packet_step, is_request, answer_to, acts, command_step, known_step, named_step, judged_step, sender_hears, packet_step, heard_step, reader_step}
-use Rattle.reader.specs.Promises.{told_of, answer_of, sent_of, last_answer_of, sound_core, core_of, state_of, accepts, accepts_name, sender_hearing, heeded, sender_after, core_after, reader_of, too_small, Steps, sender_through, control_after, Hears, NoRoom, Quiet, SoundCore, Leaves, Judges, ToSender, Settles, Receives}
+use Rattle.reader.specs.Promises.{told_of, answer_of, sent_of, last_answer_of, sound_core, core_of, state_of, accepts, accepts_name, heeded, sender_after, core_after, reader_of, too_small, Steps, sender_through, control_after, Hears, NoRoom, Quiet, SoundCore, Leaves, Judges, ToSender, Settles, Receives}
 use Rattle.reader.specs.declared.Core.{Core}
 use Rattle.reader.specs.declared.Stepped.{Stepped}
 use Rattle.reader.specs.declared.Reader.{Reader}

@@ -1,11 +1,11 @@
 -- Edition 1 keeps the laws of an edition, and what they say of it in numbers. Assumes nothing.
-use Prim.Native.Nat.{ℕ, ◌+◌, ◌*◌, ◌≤◌}
+use Prim.Native.Nat.{ℕ, ◌+◌, ◌≤◌}
 use mathlib.Core.Path.{◌≡◌, refl}
 use mathlib.Core.Bool.{Bool, true}
 use mathlib.Core.List.{List}
 use native.Mathlib.Omega.{arith}
 use lib.ListN.{length}
-use Rattle.table.specs.Rows.{parameter_count, rows, place_in}
+use Rattle.table.specs.Rows.{rows}
 use Rattle.table.specs.Table.{Values, member, numbers_of}
 use Rattle.table.proofs.Finding.{many}
 use Rattle.table.proofs.Theorems.{distinct}

@@ -1,24 +1,24 @@
 -- What the reader of a form finds: one law for each `return`, and what its loops keep. Assumes nothing.
 use Prim.Native.Nat.{ℕ, zero, suc, ◌+◌, ◌*◌, ◌≤◌, ◌<◌}
-use mathlib.Core.Path.{◌≡◌, refl, sym, ap, ◌∙◌}
+use mathlib.Core.Path.{◌≡◌, refl, sym, ◌∙◌}
 use mathlib.Core.Bool.{Bool, true, false}
 use mathlib.Core.List.{List, [], ◌∷◌}
 use native.Mathlib.Numerals.{add-one}
 use native.Mathlib.Omega.{arith}
-use lib.Dec.{eqb, ltb}
+use lib.Dec.{eqb}
 use lib.ListN.{length, get_or, take, drop, set, drop_of_length-le}
-use lib.Seq.{take-nil, drop-cons, drop-drop, get_or-drop}
+use lib.Seq.{drop-cons, drop-drop, get_or-drop}
 use borrow.Author.Tests.{lt-ltb}
-use Rattle.words.specs.Lists.{pick, both, over, same_bytes, Compared}
+use Rattle.words.specs.Lists.{pick, both, same_bytes, Compared}
 use Rattle.words.proofs.Lists.{other_length, take_over}
 use Rattle.words.proofs.Loops.{Filling, filled_none, filled_more, filled_all}
 use Rattle.packet.specs.declared.Refusal.TheVariants.{Form}
-use Rattle.table.specs.Rows.{parameter_count, rows, place_of, supported, row_allows, allowed}
-use Rattle.table.specs.Promises.{Allowed, values_of, table_of, changed_of}
+use Rattle.table.specs.Rows.{parameter_count, rows, supported, row_allows, allowed}
+use Rattle.table.specs.Promises.{Allowed, values_of, changed_of}
 use Rattle.table.specs.declared.Table.{Table}
 use Rattle.table.specs.declared.Verdict.TheVariants.{Done, Refused}
 use Rattle.table.proofs.Finding.{many, place_at}
-use Rattle.saved.specs.Saved.{Edition, edition1, form_of, set_size, values_in, locks_in, standing, rows_allow, is_form, read_form}
+use Rattle.saved.specs.Saved.{edition1, form_of, values_in, locks_in, standing, rows_allow, is_form, read_form}
 use Rattle.saved.specs.Promises.{least_size, Loads, Puts, Stands, ValuesIn, LocksIn, ComesNext, Passed, Exact, AllAllowed}
 use Rattle.saved.proofs.Forms.{one_most, length_values, length_locks_in}
 use Rattle.saved.proofs.First.{length_form1}

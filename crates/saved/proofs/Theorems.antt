@@ -1,13 +1,13 @@
 -- The theorems over a saved set: each set has one form and each form at most one set; what is taken has only allowed values. Those that
 -- hold of every edition are said of every one. Assumes nothing.
-use Prim.Native.Nat.{ℕ, zero, suc, ◌+◌, ◌<◌}
+use Prim.Native.Nat.{ℕ, zero, suc, ◌<◌}
 use mathlib.Core.Path.{◌≡◌, refl, sym, ap, ◌∙◌}
 use mathlib.Core.Bool.{Bool, true, false}
 use mathlib.Core.List.{List, [], ◌∷◌}
 use native.Mathlib.Omega.{arith}
 use lib.ListN.{length, get_or, drop}
 use lib.Seq.{get_or-drop}
-use Rattle.words.specs.Lists.{pick, both, same_bytes}
+use Rattle.words.specs.Lists.{pick, same_bytes}
 use Rattle.words.proofs.Lists.{both_left, both_right, same_refl, same_equal, never}
 use Rattle.packet.specs.declared.Refusal.{Refusal}
 use Rattle.packet.specs.declared.Refusal.TheVariants.{Form}

@@ -1,5 +1,5 @@
 -- What the writer leaves in its room: one law for each `return`, and what its loops keep. Assumes nothing.
-use Prim.Native.Nat.{ℕ, ◌+◌, ◌-◌, ◌*◌, ◌≤◌, ◌<◌}
+use Prim.Native.Nat.{ℕ, ◌+◌, ◌-◌, ◌≤◌, ◌<◌}
 use mathlib.Core.Path.{◌≡◌, refl, sym, ap, ◌∙◌}
 use mathlib.Core.Bool.{Bool, true, false}
 use mathlib.Core.List.{List, [], ◌∷◌, ◌++◌, append_assoc, append-nil}
@@ -13,7 +13,7 @@ use Rattle.words.specs.Lists.{pick, over, Over}
 use Rattle.words.proofs.Lists.{never, over_nil, back, behind, set_over_at, over_take, over_behind}
 use Rattle.packet.specs.declared.Refusal.{Refusal}
 use Rattle.packet.specs.declared.Refusal.TheVariants.{Room}
-use Rattle.table.specs.Rows.{parameter_count, rows}
+use Rattle.table.specs.Rows.{rows}
 use Rattle.table.specs.Promises.{values_of}
 use Rattle.table.specs.declared.Table.{Table}
 use Rattle.table.specs.declared.Written.{Written}
@@ -23,7 +23,7 @@ use Rattle.table.proofs.Answering.{two_stores}
 use Rattle.saved.specs.Saved.{edition1, pairs_of, locks_of, lock_count, form_of, set_size}
 use Rattle.saved.specs.Promises.{Saves, Puts, PutsPairs, PutsLocks, PutsLock, lock_bytes}
 use Rattle.saved.proofs.Forms.{one_most, pairs_snoc, locks_snoc, count_snoc, count_most}
-use Rattle.saved.proofs.First.{length_pairs1, length_locks1, length_form1, form1_most}
+use Rattle.saved.proofs.First.{length_pairs1, length_locks1}
 
 -- The rows up to one more.
 more_rows : (i : ℕ) → i < length rows → take (i + 1) rows ≡ take i rows ++ (get_or rows i [] ∷ [])

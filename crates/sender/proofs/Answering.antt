@@ -17,7 +17,7 @@ use Rattle.packet.specs.Packet.{body_of}
 use Rattle.packet.specs.declared.Refusal.TheVariants as refusal
 use Rattle.sender.specs.Pieces.{next_size, pieces_of, bodies_of, packets_of}
 use Rattle.sender.specs.Sender.{SenderState, nothing_out, some, waits, Sent, copy, delivered, failed, refused, gap_due, begins, start_step, fails, resends, out_step, sender_step}
-use Rattle.sender.specs.Promises.{Waits, name_of, copy_of, piece_of, rest_of, behind_of, last_of, out_of, state_of, moved_to, going_on, resending, copied_by, control_after, begun_control, started_of, Starts, Hears, NextSize, Sounds, refusing, Refuses, Moves, Ends, Fails, due_of, Due, Out, present_of, Writes, Copies, Begins, OutSteps, sound_of}
+use Rattle.sender.specs.Promises.{Waits, name_of, copy_of, piece_of, rest_of, behind_of, last_of, out_of, state_of, moved_to, going_on, resending, copied_by, control_after, begun_control, started_of, Starts, Hears, NextSize, Sounds, Refuses, Moves, Ends, Fails, due_of, Due, Out, present_of, Writes, Copies, Begins, OutSteps, sound_of}
 use Rattle.sender.specs.declared.Sender.{Sender}
 use Rattle.sender.specs.declared.Heard.{Heard}
 use Rattle.sender.specs.declared.Heard.TheVariants.{Ack, Nak, TimeOut, Nothing}

@@ -8,7 +8,7 @@ use native.Mathlib.Omega.{arith}
 use lib.ListN.{length, get_or, take, drop, set, length-take, length-drop, length-set}
 use borrow.Author.Tests.{eq-eqb, ne_eqb, le-leb, lt-leb, lt-ltb, le-ltb}
 use Rattle.words.specs.Lists.{over, over_at, Copied, Compared}
-use Rattle.words.proofs.Lists.{part_over, copied_over, never}
+use Rattle.words.proofs.Lists.{part_over, copied_over}
 use Rattle.packet.specs.Opcodes.{reader, cmd_ack, cmd_nak, decode_data}
 use Rattle.packet.specs.Packet.{body_of, seal, source_allowed, fields_of, written}
 use Rattle.packet.specs.Promises.{Fill, SizeOf}
@@ -23,7 +23,6 @@ use Rattle.sender.specs.Promises.{Idle, Heeds, NextSize, due_of, Due, Refuses, m
 use Rattle.sender.specs.declared.Sender.{Sender}
 use Rattle.sender.specs.declared.Heard.TheVariants.{Ack, Nak, Nothing}
 use Rattle.sender.specs.declared.Outcome.TheVariants as outcome
-use Rattle.sender.specs.declared.Sending.{Sending}
 use Rattle.sender.proofs.Cutting.{next_last, next_fits}
 
 -- ---- control values

@@ -1,19 +1,18 @@
 -- How a message is cut into pieces, and what its packets are then. Assumes nothing.
 use Prim.Native.Nat.{ℕ, zero, suc, ◌+◌, ◌-◌, ◌*◌, ◌≤◌, ◌<◌}
-use mathlib.Core.Path.{◌≡◌, refl, sym, ap, ◌∙◌}
+use mathlib.Core.Path.{◌≡◌, refl, ap, ◌∙◌}
 use mathlib.Core.Bool.{Bool, true, false}
 use mathlib.Core.List.{List, [], ◌∷◌}
 use native.Mathlib.Omega.{arith}
 use native.Mathlib.Decide.{dec_le}
-use lib.Dec.{ltb, leb}
 use lib.ListN.{length, take, drop, length-drop}
 use lib.Seq.{length-take-le}
-use borrow.Author.Tests.{le-leb, lt-leb, lt-ltb, le-ltb, leb-true, leb-false, eqb-true, eq-eqb}
-use Rattle.words.specs.Lists.{pick, both, same_bytes}
-use Rattle.words.proofs.Lists.{same_equal, other_length, both_left, both_right}
+use borrow.Author.Tests.{le-leb, lt-leb, lt-ltb, le-ltb, eq-eqb}
+use Rattle.words.specs.Lists.{pick, same_bytes}
+use Rattle.words.proofs.Lists.{same_equal, other_length}
 use Rattle.packet.specs.Opcodes.{reader, decode_data}
 use Rattle.packet.specs.Packet.{body_of}
-use Rattle.sender.specs.Pieces.{next_size, cut_by, pieces_from, pieces_of, bodies_of, packets_of}
+use Rattle.sender.specs.Pieces.{next_size, cut_by, pieces_from, pieces_of, bodies_of}
 use Rattle.sender.specs.Promises.{sized_of}
 
 -- ---- the next piece

@@ -1,13 +1,13 @@
 -- What control value and buffer stand for: the present packet and those of the message behind it, or the last packet of the message before. So
 -- the control value after a step stands for the state after it. Assumes nothing.
-use Prim.Native.Nat.{ℕ, zero, suc, ◌+◌, ◌-◌, ◌*◌, ◌/◌, ◌≤◌, ◌<◌}
+use Prim.Native.Nat.{ℕ, zero, suc, ◌+◌, ◌-◌, ◌≤◌, ◌<◌}
 use mathlib.Core.Path.{◌≡◌, refl, sym, ap, ◌∙◌}
 use mathlib.Core.Bool.{Bool, true, false}
 use mathlib.Core.List.{List, [], ◌∷◌}
 use native.Mathlib.Omega.{arith}
 use native.Mathlib.Decide.{dec_le}
 use lib.Dec.{eqb, ltb}
-use lib.ListN.{length, take, drop, length-take, length-drop}
+use lib.ListN.{length, take, drop, length-drop}
 use lib.Seq.{drop-drop, take-take, take_all, take-nil, length-take-le}
 use borrow.Author.Tests.{lt-ltb, ltb-true, ltb-false, le-ltb}
 use Rattle.words.specs.Lists.{pick}
@@ -16,12 +16,12 @@ use Rattle.packet.specs.Opcodes.{reader, decode_data}
 use Rattle.packet.specs.Packet.{body_of, marked}
 use Rattle.packet.proofs.Marks.{marked_of}
 use Rattle.sender.specs.Pieces.{next_size, pieces_from, bodies_of}
-use Rattle.sender.specs.Sender.{SenderState, nothing_out, sending, some, Sent, fails, resends, out_step, sender_step}
-use Rattle.sender.specs.Promises.{idle_control, sized_of, placed_of, made_of, sound_of, piece_of, rest_of, behind_of, last_of, out_of, state_of, moved_to, going_on, resending, copied_by, delivered_control, control_after, Sounds, Out, Moves, NextSize, present_of}
+use Rattle.sender.specs.Sender.{SenderState, nothing_out, sending, Sent, fails, resends, out_step, sender_step}
+use Rattle.sender.specs.Promises.{idle_control, sized_of, placed_of, made_of, sound_of, piece_of, rest_of, behind_of, last_of, out_of, state_of, going_on, resending, copied_by, delivered_control, control_after, Sounds, Out, Moves, NextSize, present_of}
 use Rattle.sender.specs.declared.Sender.{Sender}
 use Rattle.sender.specs.declared.Heard.{Heard}
 use Rattle.sender.specs.declared.Heard.TheVariants.{Ack, Nak, TimeOut, Nothing}
-use Rattle.sender.proofs.Cutting.{Fits, next_last, next_fits, left_behind, pieces_from_cut, cut_some, pieces_last, pieces_cut, bodies_more}
+use Rattle.sender.proofs.Cutting.{next_last, next_fits, left_behind, pieces_from_cut, cut_some, pieces_last, pieces_cut, bodies_more}
 use Rattle.sender.proofs.Placing.{out_full, sound_out, sound_again, sound_within, taken_kept, sounds_out}
 
 -- ---- the present packet

@@ -1,26 +1,23 @@
 -- The laws of the sender's runs, over the definitions. Assumes nothing.
-use Prim.Native.Nat.{ℕ, zero, suc, ◌+◌, ◌*◌, ◌/◌, ◌%◌, ◌≤◌, ◌<◌}
+use Prim.Native.Nat.{ℕ, ◌+◌, ◌*◌, ◌/◌, ◌%◌, ◌≤◌, ◌<◌}
 use mathlib.Core.Path.{◌≡◌, refl, sym, ap, ◌∙◌}
 use mathlib.Core.Bool.{Bool, true, false}
-use mathlib.Core.List.{List, [], ◌∷◌, ◌++◌, map, flatten, append-nil}
+use mathlib.Core.List.{List, [], ◌∷◌, ◌++◌, map}
 use native.Mathlib.Omega.{arith}
-use native.Mathlib.Decide.{dec_le, ℕ_discrete}
+use native.Mathlib.Decide.{ℕ_discrete}
 use lib.Dec.{eqb, ltb}
-use lib.ListN.{length, get_or, take, drop, set, replicate, take-append-drop, length-drop, length-set}
-use lib.Seq.{length-take-le, get_or-set_same, get_or-set_other}
+use lib.ListN.{length, get_or, take, set, replicate, length-set}
+use lib.Seq.{get_or-set_same, get_or-set_other}
 use borrow.Author.Tests.{le-ltb, ltb-true}
-use Rattle.words.specs.Lists.{pick, either, Bytes, Each, none, one}
+use Rattle.words.specs.Lists.{pick, either, Each, none, one}
 use Rattle.words.specs.Machine.{Done, after, through}
-use Rattle.words.proofs.Lists.{bytes_cons, bytes_take, bytes_drop, never}
-use Rattle.words.proofs.Machine.{each_so}
+use Rattle.words.proofs.Lists.{never}
 use Rattle.packet.specs.Opcodes.{reader, decode_data}
-use Rattle.packet.specs.Packet.{body_of, seal, head_in, check_of, marked}
+use Rattle.packet.specs.Packet.{body_of, marked}
 use Rattle.packet.specs.declared.Refusal.TheVariants.{Start}
-use Rattle.packet.specs.declared.Checked.TheVariants.{Packet}
 use Rattle.packet.specs.declared.Refusal.{Refusal}
-use Rattle.packet.proofs.Theorems.{Body, body_of_lem, sealed_check}
-use Rattle.packet.proofs.Writing.{length_seal}
-use Rattle.sender.specs.Pieces.{next_size, pieces_of, bodies_of, packets_of}
+use Rattle.packet.proofs.Theorems.{Body}
+use Rattle.sender.specs.Pieces.{next_size, bodies_of, packets_of}
 use Rattle.sender.specs.Sender.{SenderState, nothing_out, sending, gap_due, ignores, some, waits, Sent, copy, delivered, failed, refused, begins, start_step, fails, resends, out_step, sender_step}
 use Rattle.sender.specs.Promises.{name_of}
 use Rattle.sender.specs.declared.Heard.{Heard}

@@ -1,7 +1,6 @@
 -- What the sender's calls promise: the answer, the next state, the control value, every byte of buffer and room.
 use Rattle.std.specs.Prelude.{ℕ, ◌+◌, ◌-◌, ◌*◌, ◌/◌, ◌≤◌, Bool, true, false, List, [], ◌∷◌, ◌≡◌, eqb, ltb, leb, length, take, drop}
 use Rattle.words.specs.Lists.{pick, both, either, same_bytes, over}
-use Rattle.words.specs.Machine.{Done}
 use Rattle.packet.specs.Opcodes.{reader, decode_data}
 use Rattle.packet.specs.Packet.{body_of, seal}
 use Rattle.packet.specs.Sizes.{packet_size, message_size}

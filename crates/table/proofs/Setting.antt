@@ -6,7 +6,7 @@ use mathlib.Core.Bool.{Bool, true, false, not}
 use mathlib.Core.List.{List, [], ◌∷◌}
 use native.Mathlib.Numerals.{add-one}
 use native.Mathlib.Omega.{arith}
-use lib.Dec.{eqb, ltb, leb}
+use lib.Dec.{eqb, leb}
 use lib.ListN.{length, get_or, drop, set, replicate, length-drop, length-set, drop_of_length-le}
 use lib.Seq.{drop-cons, set_out}
 use borrow.Author.Tests.{lt-ltb, eqb-true, eqb-false}

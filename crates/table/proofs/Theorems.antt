@@ -1,6 +1,6 @@
 -- The theorems over the table's definitions: what a list of settings changes and what it leaves, that every value stays allowed and what is
 -- locked is kept, and what an answer names. Assumes nothing.
-use Prim.Native.Nat.{ℕ, zero, suc, ◌+◌, ◌*◌, ◌≤◌, ◌<◌}
+use Prim.Native.Nat.{ℕ, zero, suc, ◌≤◌, ◌<◌}
 use mathlib.Core.Path.{◌≡◌, refl, sym, ◌∙◌}
 use mathlib.Core.Bool.{Bool, true, false, not}
 use mathlib.Core.List.{List, [], ◌∷◌, ◌++◌}
@@ -15,7 +15,7 @@ use Rattle.words.proofs.Lists.{both_left, both_right, both_false, never, either_
 use Rattle.packet.specs.declared.Refusal.{Refusal}
 use Rattle.packet.specs.declared.Refusal.TheVariants.{Data, Setting, Room}
 use Rattle.table.specs.Rows.{parameter_count, pairs_size, rows, place_in, place_of, supported, trigger_allowed, range_allowed, row_allows, allowed, defaults_of}
-use Rattle.table.specs.Table.{Values, Pair, Reading, wrong_length, pairs, locked_in, settable, all_settable, set_all, changed, Outcome, done, refused, set_pairs, defaults, restored, set_defaults, power_up, member, asked_for, numbers_of, answered_numbers, answer_data}
+use Rattle.table.specs.Table.{Values, Pair, Reading, wrong_length, pairs, locked_in, settable, all_settable, set_all, changed, done, refused, set_pairs, defaults, restored, set_defaults, power_up, member, asked_for, numbers_of, answered_numbers, answer_data}
 use Rattle.table.specs.Promises.{Answers, values_of, changed_of, marks}
 use Rattle.table.specs.declared.Table.{Table}
 use Rattle.table.specs.declared.Written.{Written}

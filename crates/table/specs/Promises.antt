@@ -3,7 +3,7 @@ use Rattle.std.specs.Prelude.{ℕ, ◌+◌, ◌*◌, ◌%◌, ◌≤◌, Bool, t
 use Rattle.words.specs.Lists.{pick, both, over, over_at}
 use Rattle.packet.specs.declared.Refusal.TheVariants as refusal
 use Rattle.table.specs.Rows.{parameter_count, pairs_size, rows, place_of, trigger_allowed, row_allows, allowed, defaults_of}
-use Rattle.table.specs.Table.{Values, Pair, Reading, wrong_length, pairs, read_pairs, send_length_allowed, request_length_allowed, locked_in, settable, all_settable, set_all, changed, Outcome, done, refused, set_pairs, defaults, restored, set_defaults, power_up, value_of, member, asked_for, numbers_of, pair_bytes, answer_data}
+use Rattle.table.specs.Table.{Values, Pair, Reading, wrong_length, pairs, read_pairs, send_length_allowed, request_length_allowed, locked_in, settable, all_settable, changed, Outcome, done, refused, set_pairs, defaults, restored, set_defaults, power_up, value_of, member, asked_for, numbers_of, pair_bytes, answer_data}
 use Rattle.table.specs.declared.Table.{Table}
 use Rattle.table.specs.declared.Verdict.{Verdict}
 use Rattle.table.specs.declared.Verdict.TheVariants as verdict

@@ -1,5 +1,4 @@
 -- `listing::spell` meets its contract: the loop keeps that the first i bytes are spelt. Assumes nothing.
-use Prim.Native.Nat.{◌-◌}
 use native.Mathlib.Omega.{arith}
 use Rattle.listing.proofs.Lines.{spelling_none, spelling_more, spelling_all}
 use Rattle.listing.proofs.spell.Goals as goal

@@ -1,6 +1,5 @@
 -- `packet::sum` meets its contract: at each turn the first i bytes are summed. The measure is what is left of them.
 -- Assumes nothing.
-use Prim.Native.Nat.{◌-◌}
 use native.Mathlib.Omega.{arith}
 use mathlib.Core.Path.{refl}
 use Rattle.packet.proofs.Sums.{summing_none, summing_more, summing_all}

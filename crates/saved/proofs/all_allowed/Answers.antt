@@ -1,5 +1,4 @@
 -- `saved::all_allowed` meets its contract: at each turn every value passed is allowed. The measure is what is left of the rows. Assumes nothing.
-use Prim.Native.Nat.{◌-◌}
 use native.Mathlib.Omega.{arith}
 use Rattle.table.specs.Rows.{rows}
 use Rattle.saved.proofs.Reading.{allowing_none, allowing_more, allowing_bad, allowing_all}

@@ -1,5 +1,4 @@
 -- `saved::locks_in` meets its contract: at each turn the first i locks are read. The measure is what is left of the rows. Assumes nothing.
-use Prim.Native.Nat.{◌-◌}
 use native.Mathlib.Omega.{arith}
 use Rattle.table.specs.Rows.{rows}
 use Rattle.saved.proofs.Reading.{unlocking_none, unlocking_more, unlocking_all}

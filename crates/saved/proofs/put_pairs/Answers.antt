@@ -1,6 +1,5 @@
 -- `saved::put_pairs` meets its contract: at each turn the pairs of the first i rows are written. The measure is what is left of the rows.
 -- Assumes nothing.
-use Prim.Native.Nat.{◌-◌}
 use native.Mathlib.Omega.{arith}
 use lib.ListN.{length-set}
 use Rattle.table.specs.Rows.{rows}

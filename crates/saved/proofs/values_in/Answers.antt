@@ -1,5 +1,4 @@
 -- `saved::values_in` meets its contract: at each turn the first i values are read. The measure is what is left of the rows. Assumes nothing.
-use Prim.Native.Nat.{◌-◌}
 use native.Mathlib.Omega.{arith}
 use Rattle.saved.proofs.Reading.{taking_none, taking_more, taking_all}
 use borrow.Author.Rules.{rules}

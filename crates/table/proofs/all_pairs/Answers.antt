@@ -1,7 +1,6 @@
 -- `table::all_pairs` meets its contract: at each turn the pairs of the first i rows are written. The measure is what is left of the rows.
 -- Assumes nothing.
 use lib.ListN.{length-set}
-use Prim.Native.Nat.{◌-◌}
 use native.Mathlib.Omega.{arith}
 use Rattle.table.specs.Rows.{rows}
 use Rattle.table.proofs.Answering.{listing_none, listing_more, listing_all}

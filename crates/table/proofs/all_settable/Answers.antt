@@ -1,5 +1,4 @@
 -- `table::all_settable` meets its contract: at each turn every pair passed may be set. The measure is what is left of the bytes. Assumes nothing.
-use Prim.Native.Nat.{◌-◌}
 use native.Mathlib.Omega.{arith}
 use Rattle.table.proofs.Setting.{judging_none, judging_more, judging_bad, judging_all}
 use Rattle.table.proofs.all_settable.Goals as goal

@@ -1,6 +1,5 @@
 -- `table::asked_pairs` meets its contract: at each turn the numbers answered so far are those of the marked rows. The measure is what is
 -- left of the list. Assumes nothing.
-use Prim.Native.Nat.{◌-◌}
 use native.Mathlib.Omega.{arith}
 use Rattle.table.proofs.Answering.{asking_none, asking_more, asking_all}
 use Rattle.table.proofs.asked_pairs.Goals as goal

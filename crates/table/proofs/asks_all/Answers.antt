@@ -1,5 +1,4 @@
 -- `table::asks_all` meets its contract: at each turn FEh is not among those passed. The measure is what is left of them. Assumes nothing.
-use Prim.Native.Nat.{◌-◌}
 use native.Mathlib.Omega.{arith}
 use Rattle.table.proofs.Answering.{seeking_none, seeking_more, seeking_found, seeking_all}
 use Rattle.table.proofs.asks_all.Goals as goal

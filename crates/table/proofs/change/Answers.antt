@@ -1,5 +1,4 @@
 -- `table::change` meets its contract: at each turn the pairs passed are set, in the permanent values where it is asked. The measure is what is left of the bytes. Assumes nothing.
-use Prim.Native.Nat.{◌-◌}
 use native.Mathlib.Omega.{arith}
 use Rattle.table.proofs.Setting.{changing_none, changing_more, changed_all}
 use borrow.Author.Rules.{rules}

@@ -1,7 +1,6 @@
 -- `table::place` meets its contract: at each turn no row passed has the number. The measure is what is left of the rows. Assumes nothing.
 use Rattle.table.specs.Rows.{rows}
 use Rattle.table.proofs.Finding.{looking_none, looking_more, looking_found, looking_all}
-use Prim.Native.Nat.{◌-◌}
 use native.Mathlib.Omega.{arith}
 use Rattle.table.proofs.place.Goals as goal
 

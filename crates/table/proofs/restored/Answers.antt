@@ -1,6 +1,5 @@
 -- `table::restored` meets its contract: at each turn the first i values are restored. The measure is what is left of the rows.
 -- Assumes nothing.
-use Prim.Native.Nat.{◌-◌}
 use native.Mathlib.Omega.{arith}
 use borrow.Author.Rules.{rules}
 use Rattle.table.specs.Rows.{rows}

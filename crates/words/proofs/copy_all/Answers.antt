@@ -1,6 +1,5 @@
 -- `words::copy_all` meets its contract: at each turn the first i bytes are copied. The measure is what is left of them.
 -- Assumes nothing.
-use Prim.Native.Nat.{◌-◌}
 use native.Mathlib.Omega.{arith}
 use Rattle.words.proofs.Loops.{copied_none, copied_more, copied_all}
 use Rattle.words.proofs.copy_all.Goals as goal

@@ -1,6 +1,5 @@
 -- `words::same` meets its contract: at each turn the bytes passed are equal. The measure is what is left of them.
 -- Assumes nothing.
-use Prim.Native.Nat.{◌-◌}
 use native.Mathlib.Omega.{arith}
 use Rattle.words.proofs.Loops.{unlike, alike_none, alike_more, alike_stop, alike_all}
 use Rattle.words.proofs.same.Goals as goal

@@ -1,6 +1,6 @@
 -- `motikhund::block::read` meets its contract. The outer loop keeps what the bytes so far have left; the inner one that each turn leads on from
 -- there. The measure of both is what is left of the bytes. Assumes nothing.
-use Prim.Native.Nat.{◌+◌, ◌-◌, ◌<◌}
+use Prim.Native.Nat.{◌+◌, ◌<◌}
 use mathlib.Core.Path.{refl, ap, ◌∙◌}
 use native.Mathlib.Omega.{arith}
 use lib.ListN.{length, get_or}

@@ -1,5 +1,4 @@
 -- `control::permanent_changed` meets its contract: at each turn the values passed are alike. The measure is what is left of them. Assumes nothing.
-use Prim.Native.Nat.{◌-◌}
 use native.Mathlib.Omega.{arith}
 use Rattle.motikhund.proofs.Reading.{staying_none, staying_more, staying_stop, staying_all}
 use borrow.Author.Rules.{rules}

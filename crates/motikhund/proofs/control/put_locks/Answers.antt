@@ -1,5 +1,4 @@
 -- `control::put_locks` meets its contract: at each turn the first i flags are written. The measure is what is left of them. Assumes nothing.
-use Prim.Native.Nat.{◌-◌}
 use native.Mathlib.Omega.{arith}
 use Rattle.motikhund.proofs.Storing.{flagging_none, flagging_more, flagging_all}
 use borrow.Author.Rules.{rules}
