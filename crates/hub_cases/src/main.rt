@@ -3,11 +3,21 @@
 #![tactic(auto)]
 
 use hub_lister::{LINE_SIZE, MESSAGE_SIZE};
+use std::io;
 
-fn main() {
+fn main(rt: HostRuntime) {
     let mut line = [0u8; LINE_SIZE];
     let mut gather = [0u8; MESSAGE_SIZE];
     let mut text = [0u8; 7];
     let mut room = [0u8; 12400];
-    hub_lister::run(&mut line, &mut gather, &mut text, &mut room);
+    let mut reader = rt.reader();
+    let mut writer = io::writer(&rt);
+    hub_lister::run(
+        &mut reader,
+        &mut writer,
+        &mut line,
+        &mut gather,
+        &mut text,
+        &mut room,
+    );
 }

@@ -25,7 +25,7 @@ use Rattle.hub.specs.Promises.{told_of, answer_of, message_of, state_of, hub_ans
 use Rattle.hub.specs.declared.Hub.{Hub}
 use Rattle.hub.specs.declared.Taken.{Taken as HubTaken}
 use Rattle.hub.proofs.Outcomes.{Outcome, nothing, plain, bars, again, more, whole, event_happens}
-use Rattle.listing.specs.Lines.{line_of, answer_line}
+use Rattle.listing.specs.Lines.{answer_line}
 use Rattle.listing.specs.Listing.{skips, goes}
 use Rattle.listing.specs.Promises.{Takes}
 use Rattle.listing.specs.declared.Digit.TheVariants.{No}

@@ -1,16 +1,18 @@
-// The hub listing from standard input to standard output. It streams: the lines due for what has been read are written out before
-// the next read. No contract can say what is read or written, so those here say that a listing goes on from where it stood.
+// The hub listing from a reader to a writer. It streams: the lines due for what has been read are written out before the next read.
+// No contract can say what standard input gives or standard output takes, so those here say that a listing goes on from where it stood.
 ghost use Rattle.std.specs.Prelude.{◌≤◌, length};
 ghost use Rattle.hub_lister.specs.Promises.{lines_size, Ran};
 
 use crate::{LINES_SIZE, Lister, finish, hear, start};
 use framer::LINE_SIZE;
-use libc::{STDIN_FILENO, STDOUT_FILENO};
 use packet::MESSAGE_SIZE;
+use std::io::{Read, Write};
 
 // Reads as much at a time as the text buffer holds, to the end of the input or to what is wrong. A room under LINES_SIZE is too small
 // for the lines of one character, and nothing is read then.
-pub fn run(
+pub fn run<R: Read, W: Write>(
+    reader: &mut R,
+    writer: &mut W,
     line: &mut [u8; LINE_SIZE],
     gather: &mut [u8; MESSAGE_SIZE],
     text: &mut [u8],
@@ -21,11 +23,13 @@ pub fn run(
     if room.len() < LINES_SIZE {
         return start();
     }
-    listen(line, gather, text, room)
+    listen(reader, writer, line, gather, text, room)
 }
 
 // A proved loop has to end, and nothing says that the input does. So it counts its reads down, from a number that no run uses up.
-fn listen(
+fn listen<R: Read, W: Write>(
+    reader: &mut R,
+    writer: &mut W,
     line: &mut [u8; LINE_SIZE],
     gather: &mut [u8; MESSAGE_SIZE],
     text: &mut [u8],
@@ -37,13 +41,12 @@ fn listen(
     let mut lister = start();
     let mut reads = u64::MAX;
     while reads > 0 {
-        let got = libc::read(STDIN_FILENO, text);
-        let count = io::count(got, text);
+        let count = read(reader, text);
         if count == 0 {
-            end(lister, room);
+            end(writer, lister, room);
             return lister;
         }
-        lister = tell(lister, line, gather, &text[..count], room);
+        lister = tell(writer, lister, line, gather, &text[..count], room);
         if lister.ended {
             return lister;
         }
@@ -53,7 +56,8 @@ fn listen(
 }
 
 // The lines due for a text. The room may be full before the text ends.
-fn tell(
+fn tell<W: Write>(
+    writer: &mut W,
     lister: Lister,
     line: &mut [u8; LINE_SIZE],
     gather: &mut [u8; MESSAGE_SIZE],
@@ -70,21 +74,31 @@ fn tell(
             return present;
         }
         let listed = hear(present, line, gather, &text[from..], room);
-        write(room, listed.count);
+        write(writer, room, listed.count);
         from += listed.taken;
         present = listed.lister;
     }
     present
 }
 
-fn end(lister: Lister, room: &mut [u8]) {
+fn end<W: Write>(writer: &mut W, lister: Lister, room: &mut [u8]) {
     let count = finish(lister, room);
-    write(room, count);
+    write(writer, room, count);
+}
+
+// How many bytes came. A read that fails ends the input.
+fn read<R: Read>(reader: &mut R, text: &mut [u8]) -> usize
+    ensures { result ≤ length text.new }
+{
+    match reader.read(text) {
+        Ok(count) => count,
+        Err(_) => 0,
+    }
 }
 
 // Where a write fails nobody is left to be told.
-fn write(room: &[u8], count: usize)
+fn write<W: Write>(writer: &mut W, room: &[u8], count: usize)
     requires { count ≤ length room.now }
 {
-    io::write_all(STDOUT_FILENO, &room[..count]);
+    let _ = writer.write_all(&room[..count]);
 }

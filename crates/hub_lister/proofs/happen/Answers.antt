@@ -14,5 +14,5 @@ pub returns : goal.returns
 returns c = let m = c.args.message.now in
     let rest = drop (length m - 1) (drop 1 m) in
     happened c.hear-taken.ensures (omega arith) (simp (length-take, length-drop) (omega arith)) rest
-    (behind_first m c.hear-taken.new.1.1.1.1.0 rest (omega arith))
+    (behind_first m c.hear-taken.new.message rest (omega arith))
     c.put_lines-place.ensures

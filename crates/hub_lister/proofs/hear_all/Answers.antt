@@ -2,7 +2,6 @@
 use Rattle.listing.proofs.Reading.{listing_none, listing_more, listing_all, listing_left, room_for}
 use borrow.Author.Rules.{rules}
 use native.Mathlib.Omega.{arith}
-use Prim.Native.Nat.{◌-◌}
 use Rattle.hub_lister.proofs.hear_all.Goals as goal
 
 pub loop-i-init : goal.loop-i-init
@@ -12,7 +11,7 @@ pub character-step-requires : goal.character-step-requires
 character-step-requires c = (search rules, search rules, omega (arith, room_for c.goes_on.ensures c.if-goes_on.true, c.loop-i.invariant.0.inside))
 
 pub overflow_add-i : goal.overflow_add-i
-overflow_add-i c = omega (arith, c.well-formed)
+overflow_add-i c = omega (arith, c.well_formed)
 
 pub loop-i-preserved : goal.loop-i-preserved
 loop-i-preserved c = (listing_more c.loop-i.invariant.0 c.loop-i-test.true c.goes_on.ensures c.if-goes_on.true c.character-step.ensures.steps, search rules, search rules)

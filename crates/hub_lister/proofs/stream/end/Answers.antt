@@ -4,4 +4,4 @@ use native.Mathlib.Omega.{arith}
 use Rattle.hub_lister.proofs.stream.end.Goals as goal
 
 pub write-requires : goal.write-requires
-write-requires c = omega (arith, finish_inside c.finish-count.ensures.finishes)
+write-requires g c = omega (arith, finish_inside c.finish-count.ensures.finishes)

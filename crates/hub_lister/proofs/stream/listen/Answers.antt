@@ -5,19 +5,19 @@ use Rattle.hub_lister.proofs.Theorems.{begins}
 use Rattle.hub_lister.proofs.stream.listen.Goals as goal
 
 pub loop-reads-init : goal.loop-reads-init
-loop-reads-init c = (begins _ _ c.start-lister.ensures, search rules, search rules, search rules)
+loop-reads-init g c = (begins _ _ c.start-lister.ensures, search rules, search rules, search rules)
 
 pub returns-then-count-eq0 : goal.returns-then-count-eq0
-returns-then-count-eq0 c = c.loop-reads.invariant.0
+returns-then-count-eq0 g c = c.loop-reads.invariant.0
 
 pub tell-lister-requires : goal.tell-lister-requires
-tell-lister-requires c = (c.loop-reads.invariant.0, search rules)
+tell-lister-requires g c = (c.loop-reads.invariant.0, search rules)
 
 pub returns-then-lister : goal.returns-then-lister
-returns-then-lister c = c.tell-lister.ensures
+returns-then-lister g c = c.tell-lister.ensures
 
 pub loop-reads-preserved : goal.loop-reads-preserved
-loop-reads-preserved c = (c.tell-lister.ensures, search rules, search rules, search rules)
+loop-reads-preserved g c = (c.tell-lister.ensures, search rules, search rules, search rules)
 
 pub returns : goal.returns
-returns c = c.loop-reads.invariant.0
+returns g c = c.loop-reads.invariant.0

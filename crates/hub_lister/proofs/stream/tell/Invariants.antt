@@ -6,7 +6,7 @@ use Rattle.hub_lister.specs.Promises.{Ran}
 use Rattle.hub_lister.proofs.stream.tell.Given as goal
 
 abbrev pub invariant-loop-from : goal.invariant-loop-from
-invariant-loop-from l = Ran l.present l.line l.gather × (l.from ≤ length l.text) × (length l.room ≡ length l.initial.room)
+invariant-loop-from g l = Ran l.present l.line l.gather × (l.from ≤ length l.text) × (length l.room ≡ length l.initial.room)
 
 abbrev pub decreases-loop-from : goal.decreases-loop-from
-decreases-loop-from l = length l.text - l.from
+decreases-loop-from g l = length l.text - l.from

@@ -5,4 +5,4 @@ use lib.Seq.{length-take-le}
 use Rattle.hub_lister.proofs.stream.write.Goals as goal
 
 pub slice_bounds-write_all-end : goal.slice_bounds-write_all-end
-slice_bounds-write_all-end c = sym (length-take-le _ _ (omega arith))
+slice_bounds-write_all-end g c = sym (length-take-le _ _ (omega arith))
