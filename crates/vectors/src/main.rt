@@ -10,12 +10,12 @@ mod worked;
 
 use tally::{Tally, decimal, text};
 
-fn main() {
-    let packets = worked::packets(Tally { made: 0, wrong: 0 });
-    let all = rules::rules(packets);
-    text(b"COMPARED");
-    decimal(all.made);
-    text(b" WRONG");
-    decimal(all.wrong);
-    text(b"\n");
+fn main(rt: HostRuntime) {
+    let packets = worked::packets(&rt, Tally { made: 0, wrong: 0 });
+    let all = rules::rules(&rt, packets);
+    text(&rt, b"COMPARED");
+    decimal(&rt, all.made);
+    text(&rt, b" WRONG");
+    decimal(&rt, all.wrong);
+    text(&rt, b"\n");
 }

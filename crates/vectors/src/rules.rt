@@ -10,15 +10,15 @@ use crate::trials::{
 use packet::{Built, Refusal, Reply};
 use words::wide;
 
-pub(crate) fn rules(t: Tally) -> Tally {
-    let a = causes(numbers(names(t)));
-    let b = order(lengths(a));
-    let c = largest(rooms(b));
-    fields(c)
+pub(crate) fn rules(rt: &impl Print, t: Tally) -> Tally {
+    let a = causes(rt, numbers(rt, names(rt, t)));
+    let b = order(rt, lengths(rt, a));
+    let c = largest(rt, rooms(rt, b));
+    fields(rt, c)
 }
 
 // The library's names for sources and opcodes, beside their numbers as §2, §7, §8 and §11 print them.
-fn names(t: Tally) -> Tally {
+fn names(rt: &impl Print, t: Tally) -> Tally {
     let found = [
         packet::HOST,
         packet::READER,
@@ -39,11 +39,11 @@ fn names(t: Tally) -> Tally {
         packet::DECODE_DATA,
     ];
     let due = b"\x04\x00\xD0\xD1\xC6\xC7\xE6\xE7\xE8\xC8\xE4\xE5\xE9\xEA\xC5\xC4\xF3";
-    listed(t, b"NAMES", &found, due)
+    listed(rt, t, b"NAMES", &found, due)
 }
 
 // The table of 'Refusal numbers': the first column, then the cause of the NAK in the last, 0 for none.
-fn numbers(t: Tally) -> Tally {
+fn numbers(rt: &impl Print, t: Tally) -> Tally {
     let found = [
         packet::number(Refusal::Length),
         packet::number(Refusal::Checksum),
@@ -61,6 +61,7 @@ fn numbers(t: Tally) -> Tally {
         packet::number(Refusal::Long),
     ];
     listed(
+        rt,
         t,
         b"NUMBERS",
         &found,
@@ -68,7 +69,7 @@ fn numbers(t: Tally) -> Tally {
     )
 }
 
-fn causes(t: Tally) -> Tally {
+fn causes(rt: &impl Print, t: Tally) -> Tally {
     let found = [
         packet::cause(Refusal::Length),
         packet::cause(Refusal::Checksum),
@@ -86,6 +87,7 @@ fn causes(t: Tally) -> Tally {
         packet::cause(Refusal::Long),
     ];
     listed(
+        rt,
         t,
         b"CAUSES",
         &found,
@@ -93,119 +95,136 @@ fn causes(t: Tally) -> Tally {
     )
 }
 
-fn listed(t: Tally, word: &[u8], found: &[u8], due: &[u8]) -> Tally {
-    text(word);
-    hex(found);
-    end(t, compared(t, words::same(found, due)))
+fn listed(rt: &impl Print, t: Tally, word: &[u8], found: &[u8], due: &[u8]) -> Tally {
+    text(rt, word);
+    hex(rt, found);
+    end(rt, t, compared(t, words::same(found, due)))
 }
 
 // A first byte below 4 is refused at once, also where the sum of that many bytes is right; 4 is the least length.
-fn lengths(before: Tally) -> Tally {
+fn lengths(rt: &impl Print, before: Tally) -> Tally {
     let mut t = before;
-    t = front(t, b"", 3);
-    t = front(t, b"\x00", 1);
-    t = front(t, b"\x01", 1);
-    t = front(t, b"\x02", 1);
-    t = front(t, b"\x03", 1);
-    t = front(t, b"\x00\x00\x00", 1);
-    t = front(t, b"\x01\xFF\xFF", 1);
-    t = front(t, b"\x02\xD0\xFF\x2E", 1);
-    t = front(t, b"\x03\xD0\x04\xFF\x29", 1);
-    t = front(t, b"\x03\xD0\x04\x00\xFF\x29", 1);
-    t = front(t, b"\x04", 3);
-    t = front(t, b"\x04\xD0\x04\x00\xFF", 3);
-    t = front(t, b"\x04\xD0\x04\x00\xFF\x28", 0);
-    t = front(t, b"\x04\xD0\x04\x00\xFF\x29", 2);
-    t = front(t, b"\x04\xD0\x04\x00\xFE\x28", 2);
-    t = front(t, b"\x04\xD0\x04\x00\x28\xFF", 2);
+    t = front(rt, t, b"", 3);
+    t = front(rt, t, b"\x00", 1);
+    t = front(rt, t, b"\x01", 1);
+    t = front(rt, t, b"\x02", 1);
+    t = front(rt, t, b"\x03", 1);
+    t = front(rt, t, b"\x00\x00\x00", 1);
+    t = front(rt, t, b"\x01\xFF\xFF", 1);
+    t = front(rt, t, b"\x02\xD0\xFF\x2E", 1);
+    t = front(rt, t, b"\x03\xD0\x04\xFF\x29", 1);
+    t = front(rt, t, b"\x03\xD0\x04\x00\xFF\x29", 1);
+    t = front(rt, t, b"\x04", 3);
+    t = front(rt, t, b"\x04\xD0\x04\x00\xFF", 3);
+    t = front(rt, t, b"\x04\xD0\x04\x00\xFF\x28", 0);
+    t = front(rt, t, b"\x04\xD0\x04\x00\xFF\x29", 2);
+    t = front(rt, t, b"\x04\xD0\x04\x00\xFE\x28", 2);
+    t = front(rt, t, b"\x04\xD0\x04\x00\x28\xFF", 2);
     t
 }
 
 // Building judges room, then source, then status, then data: the first row of each number is wrong in every later way too.
-fn order(before: Tally) -> Tally {
+fn order(rt: &impl Print, before: Tally) -> Tally {
     let mut t = before;
-    t = refused(t, 256, 0xC6, 1, 0xFF, 252, 13);
-    t = refused(t, 256, 0xC6, 1, 0x00, 0, 13);
-    t = refused(t, 256, 0xC6, 4, 0x00, 0, 13);
-    t = refused(t, 0, 0xC6, 4, 0x00, 0, 13);
-    t = refused(t, 257, 0xC6, 1, 0xFF, 252, 4);
-    t = refused(t, 257, 0xC6, 1, 0x00, 0, 4);
-    t = refused(t, 257, 0xC6, 4, 0xFF, 252, 5);
-    t = refused(t, 257, 0xC6, 4, 0x02, 0, 5);
-    t = refused(t, 257, 0xF3, 0, 0x04, 0, 5);
-    t = refused(t, 257, 0xF3, 0, 0x10, 0, 5);
-    t = refused(t, 257, 0xF3, 0, 0x20, 0, 5);
-    t = refused(t, 257, 0xF3, 0, 0x40, 0, 5);
-    t = refused(t, 257, 0xF3, 0, 0x80, 0, 5);
-    t = refused(t, 257, 0xC6, 4, 0x00, 252, 7);
-    t = refused(t, 300, 0xF3, 0, 0x02, 252, 7);
+    t = refused(rt, t, 256, 0xC6, 1, 0xFF, 252, 13);
+    t = refused(rt, t, 256, 0xC6, 1, 0x00, 0, 13);
+    t = refused(rt, t, 256, 0xC6, 4, 0x00, 0, 13);
+    t = refused(rt, t, 0, 0xC6, 4, 0x00, 0, 13);
+    t = refused(rt, t, 257, 0xC6, 1, 0xFF, 252, 4);
+    t = refused(rt, t, 257, 0xC6, 1, 0x00, 0, 4);
+    t = refused(rt, t, 257, 0xC6, 4, 0xFF, 252, 5);
+    t = refused(rt, t, 257, 0xC6, 4, 0x02, 0, 5);
+    t = refused(rt, t, 257, 0xF3, 0, 0x04, 0, 5);
+    t = refused(rt, t, 257, 0xF3, 0, 0x10, 0, 5);
+    t = refused(rt, t, 257, 0xF3, 0, 0x20, 0, 5);
+    t = refused(rt, t, 257, 0xF3, 0, 0x40, 0, 5);
+    t = refused(rt, t, 257, 0xF3, 0, 0x80, 0, 5);
+    t = refused(rt, t, 257, 0xC6, 4, 0x00, 252, 7);
+    t = refused(rt, t, 300, 0xF3, 0, 0x02, 252, 7);
     t
 }
 
 // Building n bytes FFh into a room of this size gives this refusal.
-fn refused(t: Tally, size: usize, opcode: u8, source: u8, status: u8, n: u8, due: u8) -> Tally
+fn refused(
+    rt: &impl Print,
+    t: Tally,
+    size: usize,
+    opcode: u8,
+    source: u8,
+    status: u8,
+    n: u8,
+    due: u8,
+) -> Tally
     requires { size ≤ 300 }
 {
     let full = [0xFFu8; 255];
     let part = at_most(&full, wide(n));
     let mut buffer = unwritten();
     let done = build_in(&mut buffer, size, opcode, source, status, part);
-    text(b"ROOM");
-    decimal(size);
-    say_fields(opcode, source, status);
-    say_size(part.len());
-    judged(t, done, &buffer, due, b"")
+    text(rt, b"ROOM");
+    decimal(rt, size);
+    say_fields(rt, opcode, source, status);
+    say_size(rt, part.len());
+    judged(rt, t, done, &buffer, due, b"")
 }
 
 // A room may be larger than is asked for. An answer's source is judged as building judges it, after the room.
-fn rooms(before: Tally) -> Tally {
+fn rooms(rt: &impl Print, before: Tally) -> Tally {
     let mut t = before;
-    t = roomed(t, 257);
-    t = roomed(t, 258);
-    t = roomed(t, 300);
-    t = answer(t, 0, 4, Reply::Ack, 13, b"");
-    t = answer(t, 8, 4, Reply::Ack, 0, b"\x04\xD0\x04\x00\xFF\x28");
-    t = answer(t, 300, 0, Reply::Nak(6), 0, b"\x05\xD1\x00\x00\x06\xFF\x24");
-    t = answer(t, 6, 1, Reply::Ack, 13, b"");
-    t = answer(t, 7, 1, Reply::Ack, 4, b"");
-    t = answer(t, 7, 1, Reply::Nak(1), 4, b"");
+    t = roomed(rt, t, 257);
+    t = roomed(rt, t, 258);
+    t = roomed(rt, t, 300);
+    t = answer(rt, t, 0, 4, Reply::Ack, 13, b"");
+    t = answer(rt, t, 8, 4, Reply::Ack, 0, b"\x04\xD0\x04\x00\xFF\x28");
+    t = answer(
+        rt,
+        t,
+        300,
+        0,
+        Reply::Nak(6),
+        0,
+        b"\x05\xD1\x00\x00\x06\xFF\x24",
+    );
+    t = answer(rt, t, 6, 1, Reply::Ack, 13, b"");
+    t = answer(rt, t, 7, 1, Reply::Ack, 4, b"");
+    t = answer(rt, t, 7, 1, Reply::Nak(1), 4, b"");
     t
 }
 
 // Building case 1 into a room of this size.
-fn roomed(t: Tally, size: usize) -> Tally
+fn roomed(rt: &impl Print, t: Tally, size: usize) -> Tally
     requires { size ≤ 300 }
 {
     let mut buffer = unwritten();
     let done = build_in(&mut buffer, size, 0xD0, 4, 0, b"");
-    text(b"ROOM");
-    decimal(size);
-    judged(t, done, &buffer, 0, b"\x04\xD0\x04\x00\xFF\x28")
+    text(rt, b"ROOM");
+    decimal(rt, size);
+    judged(rt, t, done, &buffer, 0, b"\x04\xD0\x04\x00\xFF\x28")
 }
 
 // 255 bytes and their checksum, all data FFh: the largest sum, 65,025, and the largest packet that building gives.
-fn largest(t: Tally) -> Tally {
+fn largest(rt: &impl Print, t: Tally) -> Tally {
     let mut bytes = [0xFFu8; 257];
     bytes[255] = 0x01;
-    let a = checked(t, &bytes, 0xFF, 0xFF, 0xFF, 251);
+    let a = checked(rt, t, &bytes, 0xFF, 0xFF, 0xFF, 251);
     bytes[2] = 0x04;
     bytes[3] = 0x09;
     bytes[255] = 0x03;
     bytes[256] = 0xF0;
-    let b = checked(a, &bytes, 0xFF, 4, 9, 251);
-    let c = built(b, &bytes, 0xFF, 4, 9, 0, &bytes);
-    cut(c, &bytes)
+    let b = checked(rt, a, &bytes, 0xFF, 4, 9, 251);
+    let c = built(rt, b, &bytes, 0xFF, 4, 9, 0, &bytes);
+    cut(rt, c, &bytes)
 }
 
 // Every value of one field, the others right, and how many of them building allows.
-fn fields(before: Tally) -> Tally {
+fn fields(rt: &impl Print, before: Tally) -> Tally {
     let mut t = before;
-    t = every(t, Field::Status(0xF3), 8);
-    t = every(t, Field::Status(0xF2), 4);
-    t = every(t, Field::Status(0xC6), 4);
-    t = every(t, Field::Source, 2);
-    t = every(t, Field::Opcode, 256);
-    t = every(t, Field::Size, 252);
+    t = every(rt, t, Field::Status(0xF3), 8);
+    t = every(rt, t, Field::Status(0xF2), 4);
+    t = every(rt, t, Field::Status(0xC6), 4);
+    t = every(rt, t, Field::Source, 2);
+    t = every(rt, t, Field::Opcode, 256);
+    t = every(rt, t, Field::Size, 252);
     t
 }
 
@@ -224,27 +243,27 @@ struct Allowed {
     count: usize,
 }
 
-fn every(t: Tally, field: Field, due: usize) -> Tally {
+fn every(rt: &impl Print, t: Tally, field: Field, due: usize) -> Tally {
     let mut a = Allowed { tally: t, count: 0 };
     for value in 0..256usize {
         a = tried(a, field, value as u8);
     }
-    say_field(field);
-    text(b" ALLOWED");
-    decimal(a.count);
+    say_field(rt, field);
+    text(rt, b" ALLOWED");
+    decimal(rt, a.count);
     let after = a.tally;
-    end(t, compared(after, a.count == due))
+    end(rt, t, compared(after, a.count == due))
 }
 
-fn say_field(field: Field) {
+fn say_field(rt: &impl Print, field: Field) {
     match field {
         Field::Status(opcode) => {
-            text(b"STATUS");
-            hex_byte(opcode)
+            text(rt, b"STATUS");
+            hex_byte(rt, opcode)
         }
-        Field::Source => text(b"SOURCE"),
-        Field::Opcode => text(b"OPCODE"),
-        Field::Size => text(b"SIZE"),
+        Field::Source => text(rt, b"SOURCE"),
+        Field::Opcode => text(rt, b"OPCODE"),
+        Field::Size => text(rt, b"SIZE"),
     }
 }
 

@@ -1,5 +1,4 @@
 // The count of comparisons, and the words, bytes and numbers of the lines.
-use libc::STDOUT_FILENO;
 use words::wide;
 
 // How many comparisons were made, and how many of them found something else than is due.
@@ -26,38 +25,37 @@ pub(crate) fn more(n: usize, so: bool) -> usize {
 }
 
 // Ends a line that began with the tally `before`.
-pub(crate) fn end(before: Tally, after: Tally) -> Tally {
+pub(crate) fn end(rt: &impl Print, before: Tally, after: Tally) -> Tally {
     if before.wrong == after.wrong {
-        text(b" ok\n");
+        text(rt, b" ok\n");
         return after;
     }
-    text(b" WRONG\n");
+    text(rt, b" WRONG\n");
     after
 }
 
-pub(crate) fn text(s: &[u8]) {
-    io::write_all(STDOUT_FILENO, s);
+// Where a write fails nobody is left to be told.
+pub(crate) fn text(rt: &impl Print, s: &[u8]) {
+    let _ = rt.write_all(s);
 }
 
 // A number, after a space.
-pub(crate) fn decimal(n: usize) {
-    text(b" ");
-    io::print_decimal(STDOUT_FILENO, n as u64);
+pub(crate) fn decimal(rt: &impl Print, n: usize) {
+    text(rt, b" ");
+    let _ = print!(rt; "{n}");
 }
 
 // Two capital digits for each byte, after a space.
-pub(crate) fn hex(s: &[u8]) {
-    let mut i = 0;
-    while i < s.len() {
-        hex_byte(s[i]);
-        i += 1;
+pub(crate) fn hex(rt: &impl Print, s: &[u8]) {
+    for b in s {
+        hex_byte(rt, *b);
     }
 }
 
-pub(crate) fn hex_byte(b: u8) {
+pub(crate) fn hex_byte(rt: &impl Print, b: u8) {
     let n = wide(b);
     let spelt = [b' ', digit(n / 16), digit(n % 16)];
-    text(&spelt);
+    text(rt, &spelt);
 }
 
 fn digit(n: usize) -> u8 {

@@ -7,6 +7,7 @@ use words::wide;
 
 // A packet that the check finds with these fields and n bytes of data and that building gives again; then it is damaged.
 pub(crate) fn worked(
+    rt: &impl Print,
     t: Tally,
     bytes: &[u8],
     opcode: u8,
@@ -14,13 +15,14 @@ pub(crate) fn worked(
     status: u8,
     n: usize,
 ) -> Tally {
-    let a = checked(t, bytes, opcode, source, status, n);
-    let b = built(a, bytes, opcode, source, status, 0, bytes);
-    damaged(b, bytes)
+    let a = checked(rt, t, bytes, opcode, source, status, n);
+    let b = built(rt, a, bytes, opcode, source, status, 0, bytes);
+    damaged(rt, b, bytes)
 }
 
 // The same with a status that isn't allowed: the check doesn't judge it, building refuses it with 5.
 pub(crate) fn unbuilt(
+    rt: &impl Print,
     t: Tally,
     bytes: &[u8],
     opcode: u8,
@@ -28,18 +30,18 @@ pub(crate) fn unbuilt(
     status: u8,
     n: usize,
 ) -> Tally {
-    let a = checked(t, bytes, opcode, source, status, n);
-    let b = built(a, bytes, opcode, source, status, 5, b"");
-    damaged(b, bytes)
+    let a = checked(rt, t, bytes, opcode, source, status, n);
+    let b = built(rt, a, bytes, opcode, source, status, 5, b"");
+    damaged(rt, b, bytes)
 }
 
 // The check gives this refusal at the front of these bytes; 0 is a packet.
-pub(crate) fn front(t: Tally, bytes: &[u8], due: u8) -> Tally {
+pub(crate) fn front(rt: &impl Print, t: Tally, bytes: &[u8], due: u8) -> Tally {
     let number = verdict(bytes);
-    text(b"FRONT");
-    hex(bytes);
-    say_number(number);
-    end(t, compared(t, number == due))
+    text(rt, b"FRONT");
+    hex(rt, bytes);
+    say_number(rt, number);
+    end(rt, t, compared(t, number == due))
 }
 
 // The number of the refusal; 0 for a packet.
@@ -50,17 +52,18 @@ pub(crate) fn verdict(s: &[u8]) -> u8 {
     }
 }
 
-fn say_number(number: u8) {
+fn say_number(rt: &impl Print, number: u8) {
     if number == 0 {
-        text(b" PACKET");
+        text(rt, b" PACKET");
         return;
     }
-    text(b" REFUSED");
-    decimal(wide(number));
+    text(rt, b" REFUSED");
+    decimal(rt, wide(number));
 }
 
 // The check finds a packet with these fields and n bytes of data.
 pub(crate) fn checked(
+    rt: &impl Print,
     t: Tally,
     bytes: &[u8],
     opcode: u8,
@@ -68,30 +71,30 @@ pub(crate) fn checked(
     status: u8,
     n: usize,
 ) -> Tally {
-    text(b"CHECK");
-    hex(bytes);
+    text(rt, b"CHECK");
+    hex(rt, bytes);
     match packet::check(bytes) {
         Checked::Packet(head) => {
-            let a = headed(t, head, opcode, source, status);
-            end(t, parted(a, head, bytes, n))
+            let a = headed(rt, t, head, opcode, source, status);
+            end(rt, t, parted(rt, a, head, bytes, n))
         }
         Checked::Refused(refusal) => {
-            say_number(packet::number(refusal));
-            end(t, compared(t, false))
+            say_number(rt, packet::number(refusal));
+            end(rt, t, compared(t, false))
         }
     }
 }
 
-fn headed(t: Tally, head: Head, opcode: u8, source: u8, status: u8) -> Tally {
-    say_fields(head.opcode, head.source, head.status);
+fn headed(rt: &impl Print, t: Tally, head: Head, opcode: u8, source: u8, status: u8) -> Tally {
+    say_fields(rt, head.opcode, head.source, head.status);
     let a = compared(t, head.opcode == opcode);
     let b = compared(a, head.source == source);
     compared(b, head.status == status)
 }
 
-fn parted(t: Tally, head: Head, bytes: &[u8], n: usize) -> Tally {
+fn parted(rt: &impl Print, t: Tally, head: Head, bytes: &[u8], n: usize) -> Tally {
     let part = packet::data_part(bytes);
-    say_size(part.len());
+    say_size(rt, part.len());
     let a = compared(t, part.len() == n);
     let b = compared(a, head.length == part.len() + 4);
     compared(b, words::same(part, between(bytes)))
@@ -106,16 +109,16 @@ fn between(bytes: &[u8]) -> &[u8] {
     &bytes[4..n - 2]
 }
 
-pub(crate) fn say_fields(opcode: u8, source: u8, status: u8) {
-    text(b" FIELDS");
-    hex_byte(opcode);
-    hex_byte(source);
-    hex_byte(status);
+pub(crate) fn say_fields(rt: &impl Print, opcode: u8, source: u8, status: u8) {
+    text(rt, b" FIELDS");
+    hex_byte(rt, opcode);
+    hex_byte(rt, source);
+    hex_byte(rt, status);
 }
 
-pub(crate) fn say_size(n: usize) {
-    text(b" DATA");
-    decimal(n);
+pub(crate) fn say_size(rt: &impl Print, n: usize) {
+    text(rt, b" DATA");
+    decimal(rt, n);
 }
 
 // Longer than any packet and any room that is lent, so that the bytes behind them can be looked at.
@@ -138,12 +141,10 @@ fn unwritten_byte(i: usize) -> u8 {
 
 // Whether nothing has written to the buffer from this place on.
 fn untouched(buffer: &[u8], from: usize) -> bool {
-    let mut i = from;
-    while i < buffer.len() {
+    for i in from..buffer.len() {
         if buffer[i] != unwritten_byte(i) {
             return false;
         }
-        i += 1;
     }
     true
 }
@@ -169,6 +170,7 @@ pub(crate) fn at_most(s: &[u8], n: usize) -> &[u8]
 
 // Building from the fields and the data of `bytes` into a room of 257: this refusal, or 0 and these bytes.
 pub(crate) fn built(
+    rt: &impl Print,
     t: Tally,
     bytes: &[u8],
     opcode: u8,
@@ -180,8 +182,8 @@ pub(crate) fn built(
     let part = packet::data_part(bytes);
     let mut buffer = unwritten();
     let done = build_in(&mut buffer, 257, opcode, source, status, part);
-    text(b"BUILD");
-    judged(t, done, &buffer, due, written)
+    text(rt, b"BUILD");
+    judged(rt, t, done, &buffer, due, written)
 }
 
 // Building into a room that is the front of a buffer.
@@ -199,12 +201,19 @@ pub(crate) fn build_in(
 }
 
 // What building did: its number, its size, and every byte of the buffer.
-pub(crate) fn judged(t: Tally, done: Built, buffer: &Buffer, due: u8, written: &[u8]) -> Tally {
-    say_number(refusal_of(done));
-    hex(at_most(buffer, size_of(done)));
+pub(crate) fn judged(
+    rt: &impl Print,
+    t: Tally,
+    done: Built,
+    buffer: &Buffer,
+    due: u8,
+    written: &[u8],
+) -> Tally {
+    say_number(rt, refusal_of(done));
+    hex(rt, at_most(buffer, size_of(done)));
     let a = compared(t, refusal_of(done) == due);
     let b = compared(a, size_of(done) == written.len());
-    end(t, compared(b, stands(buffer, written)))
+    end(rt, t, compared(b, stands(buffer, written)))
 }
 
 // The number of the refusal; 0 where a packet was written.
@@ -223,13 +232,14 @@ fn size_of(done: Built) -> usize {
 }
 
 // An answer into a room of 7 gives these bytes; a room of 6 is too small.
-pub(crate) fn answered(t: Tally, bytes: &[u8], source: u8, reply: Reply) -> Tally {
-    let a = answer(t, 7, source, reply, 0, bytes);
-    answer(a, 6, source, reply, 13, b"")
+pub(crate) fn answered(rt: &impl Print, t: Tally, bytes: &[u8], source: u8, reply: Reply) -> Tally {
+    let a = answer(rt, t, 7, source, reply, 0, bytes);
+    answer(rt, a, 6, source, reply, 13, b"")
 }
 
 // An answer into a room of this size: this refusal, or 0 and these bytes.
 pub(crate) fn answer(
+    rt: &impl Print,
     t: Tally,
     size: usize,
     source: u8,
@@ -241,9 +251,9 @@ pub(crate) fn answer(
 {
     let mut buffer = unwritten();
     let done = answer_in(&mut buffer, size, source, reply);
-    text(b"ANSWER");
-    decimal(size);
-    judged(t, done, &buffer, due, written)
+    text(rt, b"ANSWER");
+    decimal(rt, size);
+    judged(rt, t, done, &buffer, due, written)
 }
 
 fn answer_in(buffer: &mut [u8], size: usize, source: u8, reply: Reply) -> Built
@@ -253,12 +263,12 @@ fn answer_in(buffer: &mut [u8], size: usize, source: u8, reply: Reply) -> Built
 }
 
 // A packet cut short, with more behind it, and with one byte changed.
-fn damaged(t: Tally, bytes: &[u8]) -> Tally {
+fn damaged(rt: &impl Print, t: Tally, bytes: &[u8]) -> Tally {
     let mut buffer = unwritten();
     words::copy(bytes, &mut buffer);
-    let a = cut(t, bytes);
-    let b = longer(a, bytes, &buffer);
-    changed(b, &mut buffer, bytes.len())
+    let a = cut(rt, t, bytes);
+    let b = longer(rt, a, bytes, &buffer);
+    changed(rt, b, &mut buffer, bytes.len())
 }
 
 // How often the check found a packet, and refusals 1, 2 and 3.
@@ -293,43 +303,43 @@ fn seen(f: Found, s: &[u8], due: u8) -> Found {
     }
 }
 
-fn told(t: Tally, f: Found) -> Tally {
-    decimal(f.packets);
-    decimal(f.ones);
-    decimal(f.twos);
-    decimal(f.threes);
-    end(t, f.tally)
+fn told(rt: &impl Print, t: Tally, f: Found) -> Tally {
+    decimal(rt, f.packets);
+    decimal(rt, f.ones);
+    decimal(rt, f.twos);
+    decimal(rt, f.threes);
+    end(rt, t, f.tally)
 }
 
 // Cut at each length, from no bytes on: refusal 3.
-pub(crate) fn cut(t: Tally, bytes: &[u8]) -> Tally {
+pub(crate) fn cut(rt: &impl Print, t: Tally, bytes: &[u8]) -> Tally {
     let mut f = nothing(t);
     for n in 0..bytes.len() {
         f = seen(f, at_most(bytes, n), 3);
     }
-    text(b"CUT");
-    told(t, f)
+    text(rt, b"CUT");
+    told(rt, t, f)
 }
 
 // One byte more than the packet, and many more: later bytes aren't read.
-fn longer(t: Tally, bytes: &[u8], buffer: &[u8]) -> Tally {
+fn longer(rt: &impl Print, t: Tally, bytes: &[u8], buffer: &[u8]) -> Tally {
     let one = seen(nothing(t), at_most(buffer, bytes.len() + 1), 0);
     let f = seen(one, buffer, 0);
-    text(b"LONGER");
-    told(t, f)
+    text(rt, b"LONGER");
+    told(rt, t, f)
 }
 
 // What is added to a byte, as bytes add: steps up and down, so that a length comes out too long, shorter, and below 4.
 const DIFFERENCES: [u8; 11] = [1, 2, 4, 16, 64, 128, 192, 240, 252, 254, 255];
 
 // Each of the n bytes of a packet changed by each difference.
-fn changed(t: Tally, buffer: &mut [u8], n: usize) -> Tally {
+fn changed(rt: &impl Print, t: Tally, buffer: &mut [u8], n: usize) -> Tally {
     let mut f = nothing(t);
     for at in 0..at_most(buffer, n).len() {
         f = changed_at(f, buffer, n, at);
     }
-    text(b"CHANGED");
-    told(t, f)
+    text(rt, b"CHANGED");
+    told(rt, t, f)
 }
 
 fn changed_at(f: Found, buffer: &mut [u8], n: usize, at: usize) -> Found
