@@ -113,10 +113,11 @@ pub fn bodies(tokens: &[Token]) -> Vec<Body> {
             let Some(open) = (at..tokens.len()).find(|number| tokens[*number].is("(")) else { break };
             let function = Some(tokens[at + 1].text.clone());
             at = behind(tokens, open);
-            // The result's type, then clauses with their braces, then the body's brace.
+            // The result's type, then clauses, perhaps each with a name, and their braces, then the body's brace.
             while at < tokens.len() && !tokens[at].is("{") {
                 let clause = ["requires", "ensures", "ghost"].iter().any(|word| tokens[at].is(word));
-                at = if clause { behind(tokens, at + 1) } else { at + 1 };
+                let brace = (at..tokens.len()).find(|number| clause && tokens[*number].is("{"));
+                at = brace.map_or(at + 1, |brace| behind(tokens, brace));
             }
             let end = behind(tokens, at);
             found.push(Body { function, tokens: at..end });

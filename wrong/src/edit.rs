@@ -44,10 +44,9 @@ impl Edit {
         Ok(Edit { wrong, changes })
     }
 
-    /// The file that it changes, if it is one.
-    pub fn only_file(&self) -> Option<&str> {
-        let first = &self.changes.first()?.file;
-        self.changes.iter().all(|change| change.file == *first).then_some(first)
+    /// The files that it changes.
+    pub fn files(&self) -> BTreeSet<&str> {
+        self.changes.iter().map(|change| change.file.as_str()).collect()
     }
 
     /// A file's text with all its changes made, one after the other.
@@ -63,8 +62,7 @@ impl Edit {
 
     /// Changes the files of a crate. An edit that does not apply is an `Ok(Err(..))`: it is the edit that is wrong, not the place.
     pub fn apply(&self, folder: &Path) -> Result<Result<(), String>, Stop> {
-        let files: BTreeSet<&str> = self.changes.iter().map(|change| change.file.as_str()).collect();
-        for file in files {
+        for file in self.files() {
             let path = folder.join(file);
             if !in_crate(file) || !path.is_file() {
                 return Ok(Err(format!("{file} is no file of the crate under src/, specs/ or proofs/")));

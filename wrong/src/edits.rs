@@ -7,7 +7,7 @@ use crate::edit::Edit;
 use crate::files::{at, entries, make_folder, read};
 use crate::repository::Repository;
 use crate::together::{of_one, Changed, Code};
-use crate::trial::{check, side_by_side, warm, Tried, Verdict};
+use crate::trial::{check, side_by_side, Tried, Verdict};
 use crate::Stop;
 
 struct Job {
@@ -33,18 +33,17 @@ pub fn try_edits(repository: &Repository, parts: &[&str]) -> Result<bool, Stop> 
     if parts.is_empty() {
         on_the_page(repository, &jobs)?;
     }
+    // Where single edits are named their whole logs are wanted.
+    let alone = parts.iter().any(|part| part.contains('/'));
     let mut names: Vec<&str> = jobs.iter().map(|job| job.name.as_str()).collect();
     names.dedup();
-    let sorted = names
-        .iter()
-        .map(|name| Sorted::of(repository, name, &jobs, parts.is_empty()))
-        .collect::<Result<Vec<_>, _>>()?;
+    let sorted = names.iter().map(|name| Sorted::of(repository, name, &jobs, !alone)).collect::<Result<Vec<_>, _>>()?;
     let groups: Vec<(&Sorted, &[usize])> =
         sorted.iter().flat_map(|sorted| sorted.groups.iter().map(move |group| (sorted, group.as_slice()))).collect();
-    warm(repository, &names)?;
+    repository.prove(&names)?;
     let kept = repository.keep(&names)?;
     println!(
-        "wrong: {} crates warm ({:.0} s), {} wrong programs in {} checks",
+        "wrong: {} crates proved ({:.0} s), {} wrong programs in {} checks",
         names.len(),
         begin.elapsed().as_secs_f64(),
         jobs.len(),
@@ -55,7 +54,7 @@ pub fn try_edits(repository: &Repository, parts: &[&str]) -> Result<bool, Stop> 
         |number, slot| groups[number].0.try_group(repository, groups[number].1, slot),
         |number, tried| {
             let (sorted, group) = groups[number];
-            group.iter().zip(tried).for_each(|(edit, tried)| show(sorted.jobs[*edit], tried, !parts.is_empty()));
+            group.iter().zip(tried).for_each(|(edit, tried)| show(sorted.jobs[*edit], tried, alone));
         },
     );
     let tried: Vec<_> = tried.into_iter().flatten().collect();
@@ -129,7 +128,7 @@ fn stray_folder(repository: &Repository) -> Result<Option<PathBuf>, Stop> {
 }
 
 impl Sorted<'_> {
-    /// Edits that were named are tried one by one, since their whole log is wanted.
+    /// Edits that were named singly are tried one by one.
     fn of<'a>(repository: &Repository, name: &'a str, jobs: &'a [Job], together: bool) -> Result<Sorted<'a>, Stop> {
         let jobs: Vec<&Job> = jobs.iter().filter(|job| job.name == name).collect();
         let code = Code::of(&repository.source(name))?;
@@ -158,10 +157,10 @@ impl Sorted<'_> {
     }
 
     fn check_together(&self, repository: &Repository, group: &[usize], slot: usize) -> Result<Tried, Stop> {
-        let shadow = repository.trial_shadow(self.name, slot)?;
+        let room = repository.room(self.name, slot)?;
         let changed: Vec<&Changed> = group.iter().filter_map(|edit| self.changed[*edit].as_ref()).collect();
-        self.code.write(&shadow.copied(), &changed)?;
-        check(&shadow)
+        self.code.write(&room.folder, &changed)?;
+        check(&room)
     }
 }
 
@@ -170,11 +169,11 @@ fn try_edit(repository: &Repository, job: &Job, slot: usize) -> Result<Tried, St
         Ok(edit) => edit,
         Err(why) => return Ok(Tried::never(why.clone())),
     };
-    let shadow = repository.trial_shadow(&job.name, slot)?;
-    if let Err(why) = edit.apply(&shadow.copied())? {
+    let room = repository.room(&job.name, slot)?;
+    if let Err(why) = edit.apply(&room.folder)? {
         return Ok(Tried::never(why));
     }
-    noted(repository, job, check(&shadow)?)
+    noted(repository, job, check(&room)?)
 }
 
 /// Writes the log of a trial, with what is wrong with the program.

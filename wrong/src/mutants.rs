@@ -9,7 +9,7 @@ use crate::files::{at, read, sources};
 use crate::operators::{mutants, Mutant};
 use crate::repository::Repository;
 use crate::together::Code;
-use crate::trial::{check, side_by_side, warm, Tried, Verdict};
+use crate::trial::{check, side_by_side, Tried, Verdict};
 use crate::Stop;
 
 /// A change of one file of the crate.
@@ -37,7 +37,7 @@ pub fn try_mutants(repository: &Repository, part: &str, count: usize, seed: u64)
     }
     let there = all.len();
     shuffle(&mut all, seed);
-    warm(repository, &[name])?;
+    repository.prove(&[name])?;
     let kept = repository.keep(&[name])?;
     println!("mutants of {part}: {there} one-place changes, {count} programs among them to be tried, seed {seed}");
     let (mut refused, mut survived, mut none) = (0, 0, 0);
@@ -100,12 +100,12 @@ fn placed_at(text: &str, file: PathBuf, mutant: Mutant) -> Placed {
 }
 
 fn try_one(repository: &Repository, name: &str, placed: &Placed, slot: usize) -> Result<Tried, Stop> {
-    let shadow = repository.trial_shadow(name, slot)?;
-    let path = shadow.copied().join(&placed.file);
+    let room = repository.room(name, slot)?;
+    let path = room.folder.join(&placed.file);
     let mut text = read(&path)?;
     text.replace_range(placed.mutant.at.clone(), &placed.mutant.new);
     at(&path, fs::write(&path, text))?;
-    check(&shadow)
+    check(&room)
 }
 
 fn show(placed: &Placed, tried: &Result<Tried, Stop>) {

@@ -1,13 +1,11 @@
-//! The repository, and shadows of it: folders below target/ in which one crate is a copy that may be changed, and all else is the
-//! repository's own. In a shadow `rt dev` checks the copy over a copy of the crate's incremental folder.
+//! The repository, and rooms: folders below target/ that hold a copy of one crate, which may be changed, and a copy of what `rt check` of that crate
+//! kept in its out/. There the kit's prover checks the crate, over the repository's libraries as they stand built.
 
 use std::env;
-use std::fs;
-use std::os::unix::fs::symlink;
 use std::path::{Path, PathBuf};
-use std::process::Command;
+use std::process::{Command, Output, Stdio};
 
-use crate::files::{at, copy, make_folder, mirror, read, remove};
+use crate::files::{copy, link_checked, make_folder, mirror, read, remove, state, State};
 use crate::Stop;
 
 /// The parts of a crate that a check reads.
@@ -15,11 +13,14 @@ const PARTS: [&str; 3] = ["src", "specs", "proofs"];
 
 pub struct Crate {
     pub name: String,
+    is_static: bool,
     uses: Vec<String>,
 }
 
 pub struct Repository {
     pub root: PathBuf,
+    /// The folder that has the prover and its libraries.
+    kit: PathBuf,
     /// As crates.txt lists them: a crate uses only those above it.
     pub crates: Vec<Crate>,
 }
@@ -29,11 +30,19 @@ impl Repository {
     pub fn here() -> Result<Repository, Stop> {
         let root = env::current_dir().map_err(|error| error.to_string())?;
         let crates = read(&root.join("crates.txt"))?.lines().filter_map(listed).collect();
-        Ok(Repository { root, crates })
+        // The page to read first stands at the top of the kit.
+        let page = String::from_utf8_lossy(&ran(Command::new("rt").arg("doc"))?.stdout).trim().to_string();
+        let kit = Path::new(&page).parent().filter(|kit| kit.is_absolute());
+        let kit = kit.ok_or_else(|| format!("rt doc names no page of a kit: {page}"))?.to_path_buf();
+        Ok(Repository { root, kit, crates })
     }
 
     pub fn has(&self, name: &str) -> bool {
-        self.crates.iter().any(|listed| listed.name == name)
+        self.listed(name).is_some()
+    }
+
+    fn listed(&self, name: &str) -> Option<&Crate> {
+        self.crates.iter().find(|listed| listed.name == name)
     }
 
     pub fn source(&self, name: &str) -> PathBuf {
@@ -45,19 +54,19 @@ impl Repository {
         self.root.join("target/wrong/log")
     }
 
-    /// Shadows of this run: another may go on beside it.
-    fn shadows(&self) -> PathBuf {
+    /// Rooms of this run: another may go on beside it.
+    fn rooms(&self) -> PathBuf {
         self.root.join("target/wrong").join(format!("run-{}", std::process::id()))
     }
 
     /// The run is over.
     pub fn leave(&self) -> Result<(), Stop> {
-        remove(&self.shadows())
+        remove(&self.rooms())
     }
 
-    /// Where checks of the crate as it stands keep what they checked.
-    fn incremental(&self, name: &str) -> PathBuf {
-        self.root.join("target/inc").join(name)
+    /// Where `rt check` of a crate keeps what it checked.
+    fn kept(&self, name: &str) -> PathBuf {
+        self.source(name).join("out/incremental")
     }
 
     /// The crates of the repository that a crate reaches.
@@ -75,77 +84,74 @@ impl Repository {
             .collect()
     }
 
-    /// Proves what the named crates use, where that was not done already: shadows only read it.
-    pub fn prove_below(&self, names: &[&str]) -> Result<(), Stop> {
-        let wanted: Vec<&str> = self
-            .crates
-            .iter()
-            .map(|listed| listed.name.as_str())
-            .filter(|name| names.iter().any(|of| self.below(of).contains(name)))
-            .collect();
-        if wanted.is_empty() {
-            return Ok(());
+    /// Proves the named crates as they stand, the lowest first, and so builds the libraries that they use: a trial then checks only what its change
+    /// touches.
+    pub fn prove(&self, names: &[&str]) -> Result<(), Stop> {
+        for listed in self.crates.iter().filter(|listed| names.contains(&listed.name.as_str())) {
+            let check = ran(Command::new("rt").arg("check").current_dir(self.source(&listed.name)))?;
+            if !check.status.success() {
+                print!("{}", String::from_utf8_lossy(&check.stdout));
+                return Err(format!("{} is not proved as it stands: see rt check", listed.name));
+            }
         }
-        let ran = Command::new("rt").arg("check").args(&wanted).current_dir(&self.root).output();
-        let ran = ran.map_err(|error| format!("rt: {error}"))?;
-        if ran.status.success() {
-            return Ok(());
-        }
-        print!("{}", String::from_utf8_lossy(&ran.stdout));
-        Err("what these crates use is not proved: see rt check".to_string())
+        Ok(())
     }
 
-    /// A shadow in which nothing is changed and which writes the repository's own incremental folder.
-    pub fn warm_shadow(&self, name: &str) -> Result<Shadow, Stop> {
-        let shadow = self.shadow(name, &self.shadows().join("warm").join(name))?;
-        make_folder(&self.incremental(name))?;
-        link(&self.root.join("target/inc"), &shadow.root.join("target/inc"))?;
-        Ok(shadow)
-    }
-
-    /// A shadow over a copy of the crate's incremental folder. The copy is of links: the toolchain replaces a file there and does not
-    /// write into it, which [`Kept`] makes sure of.
-    pub fn trial_shadow(&self, name: &str, slot: usize) -> Result<Shadow, Stop> {
-        let shadow = self.shadow(name, &self.shadows().join(slot.to_string()))?;
-        mirror(&self.incremental(name), &shadow.root.join("target/inc").join(name), |from, to| {
-            fs::hard_link(from, to)
-        })?;
-        Ok(shadow)
-    }
-
-    fn shadow(&self, name: &str, root: &Path) -> Result<Shadow, Stop> {
-        remove(root)?;
-        make_folder(&root.join("target"))?;
-        make_folder(&root.join("crates"))?;
-        at(root, copy(&self.root.join("crates.txt"), &root.join("crates.txt")))?;
-        for part in ["rlib", "stamp"] {
-            make_folder(&self.root.join("target").join(part))?;
-            link(&self.root.join("target").join(part), &root.join("target").join(part))?;
-        }
-        for other in self.crates.iter().filter(|other| other.name != name) {
-            link(&self.source(&other.name), &root.join("crates").join(&other.name))?;
-        }
-        let shadow = Shadow { root: root.to_path_buf(), name: name.to_string() };
+    /// A room with a copy of a crate. What was proved there is copied as links: the prover replaces such a file and does not write into it, which
+    /// [`Kept`] makes sure of.
+    pub fn room(&self, name: &str, slot: usize) -> Result<Room, Stop> {
+        let folder = self.rooms().join(slot.to_string());
+        remove(&folder)?;
+        make_folder(&folder)?;
         for part in PARTS {
             let from = self.source(name).join(part);
             if from.is_dir() {
-                mirror(&from, &shadow.copied().join(part), copy)?;
+                mirror(&from, &folder.join(part), copy)?;
             }
         }
-        Ok(shadow)
+        mirror(&self.kept(name), &folder.join("kept"), link_checked)?;
+        Ok(Room { folder, check: self.check(name) })
     }
 
-    /// The incremental folders of these crates as they are now.
+    /// The prover's command for a crate, as `rt must-fail` gives it.
+    fn check(&self, name: &str) -> Vec<String> {
+        let of_kit = |part: &str| self.kit.join(part).display().to_string();
+        let rlibs = |name: &str| self.source(name).join("out/rlib").display().to_string();
+        let root = if self.source(name).join("src/main.rt").is_file() { "src/main.rt" } else { "src/lib.rt" };
+        let mut words = vec![of_kit("bin/rattle"), "check".to_string(), root.to_string()];
+        let mut put = |flag: &str, value: String| words.extend([flag.to_string(), value]);
+        put("--crate-name", name.to_string());
+        put("--extern", format!("std={}", of_kit("rlibs/std.rlib")));
+        put("-L", format!("dependency={}", of_kit("rlibs")));
+        for used in self.listed(name).map_or(&[][..], |listed| &listed.uses) {
+            let rlib = if self.has(used) {
+                format!("{}/{used}.rlib", rlibs(used))
+            } else {
+                of_kit(&format!("rlibs/{used}.rlib"))
+            };
+            put("--extern", format!("{used}={rlib}"));
+        }
+        self.below(name).into_iter().for_each(|below| put("-L", format!("dependency={}", rlibs(below))));
+        put("--antt-project", of_kit("rattle/logic/antt-project.json"));
+        put("--logic-built", of_kit("logic_built"));
+        put("--links", format!("{name}="));
+        if self.listed(name).is_some_and(|listed| listed.is_static) {
+            put("--crate-type", "staticlib".to_string());
+        }
+        put("--jobs", "1".to_string());
+        put("--incremental", "kept".to_string());
+        words
+    }
+
+    /// What the checks of these crates kept, as it is now.
     pub fn keep(&self, names: &[&str]) -> Result<Kept, Stop> {
-        let folders: Vec<PathBuf> = names.iter().map(|name| self.incremental(name)).collect();
-        let states = folders.iter().map(|folder| crate::files::state(folder)).collect::<Result<_, _>>()?;
+        let folders: Vec<PathBuf> = names.iter().map(|name| self.kept(name)).collect();
+        let states = folders.iter().map(|folder| state(folder)).collect::<Result<_, _>>()?;
         Ok(Kept { folders, states })
     }
 }
 
-type State = Vec<(PathBuf, u64, Option<std::time::SystemTime>)>;
-
-/// Incremental folders that trials must not change.
+/// What checks kept, which trials must not change.
 pub struct Kept {
     folders: Vec<PathBuf>,
     states: Vec<State>,
@@ -153,8 +159,8 @@ pub struct Kept {
 
 impl Kept {
     pub fn unchanged(&self) -> Result<(), Stop> {
-        for (folder, state) in self.folders.iter().zip(&self.states) {
-            if crate::files::state(folder)? != *state {
+        for (folder, was) in self.folders.iter().zip(&self.states) {
+            if state(folder)? != *was {
                 return Err(format!("{} was changed by a trial: later verdicts may rest on it", folder.display()));
             }
         }
@@ -162,25 +168,33 @@ impl Kept {
     }
 }
 
-/// A line of crates.txt: a name, and what it uses.
+/// A line of crates.txt: a name, perhaps with a word on it, and what it uses.
 fn listed(line: &str) -> Option<Crate> {
     let line = line.split('#').next().unwrap_or("");
-    let (name, uses) = line.split_once(':')?;
-    Some(Crate { name: name.trim().to_string(), uses: uses.split_whitespace().map(str::to_string).collect() })
+    let (said, uses) = line.split_once(':')?;
+    let mut said = said.split_whitespace();
+    let name = said.next()?.to_string();
+    Some(Crate {
+        name,
+        is_static: said.any(|word| word == "staticlib"),
+        uses: uses.split_whitespace().map(str::to_string).collect(),
+    })
 }
 
-fn link(to: &Path, from: &Path) -> Result<(), Stop> {
-    at(from, symlink(to, from))
+fn ran(command: &mut Command) -> Result<Output, Stop> {
+    let program = command.get_program().to_string_lossy().into_owned();
+    command.stdin(Stdio::null()).output().map_err(|error| format!("{program}: {error}"))
 }
 
-pub struct Shadow {
-    pub root: PathBuf,
-    pub name: String,
-}
-
-impl Shadow {
+pub struct Room {
     /// The copy of the crate, which may be changed.
-    pub fn copied(&self) -> PathBuf {
-        self.root.join("crates").join(&self.name)
+    pub folder: PathBuf,
+    check: Vec<String>,
+}
+
+impl Room {
+    /// Checks the crate as it stands here.
+    pub fn checked(&self) -> Result<Output, Stop> {
+        ran(Command::new(&self.check[0]).args(&self.check[1..]).current_dir(&self.folder))
     }
 }

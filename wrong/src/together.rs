@@ -4,12 +4,12 @@
 use std::collections::HashSet;
 use std::fs;
 use std::ops::Range;
-use std::path::Path;
+use std::path::{Path, PathBuf};
 
 use crate::code::{bodies, tokens, Token};
 use crate::edit::Edit;
 use crate::files::{at, read, sources};
-use crate::trial::{own_verdict, Tried, Verdict};
+use crate::trial::{folder_of, own_verdict, Tried, Verdict};
 use crate::Stop;
 
 /// The most edits in one check: enough that loading the crate counts little, and few enough that all cores have work to the end.
@@ -35,16 +35,19 @@ struct Function {
 
 /// The code of a crate, as it stands.
 pub struct Code {
+    folder: PathBuf,
     files: Vec<File>,
 }
 
-/// An edit that changes the body of one function and nothing else.
+/// An edit that changes the body of one function, perhaps with that function's proof, and nothing else.
 pub struct Changed {
     /// The function's file and its place there.
     file: usize,
     function: usize,
     /// The body that the edit makes.
     body: String,
+    /// The proof's files that it changes, below the crate's folder, with their texts.
+    proof: Vec<(String, String)>,
 }
 
 impl File {
@@ -93,7 +96,7 @@ impl Code {
             let below = path.strip_prefix(folder).expect("a file of the crate").to_string_lossy().into_owned();
             files.push(File::cut(&below, read(&path)?));
         }
-        Ok(Code { files })
+        Ok(Code { folder: folder.to_path_buf(), files })
     }
 
     /// The function whose body has this place of a file.
@@ -102,13 +105,20 @@ impl Code {
         file.functions.iter().find(|function| function.body.contains(&place)).map(|function| function.path.as_str())
     }
 
-    /// What an edit changes, if that is one function's body.
+    /// What an edit changes, if that is one function's body, perhaps with that function's proof.
     pub fn changed(&self, edit: &Edit) -> Option<Changed> {
-        let path = edit.only_file()?;
+        let (code, proof): (Vec<&str>, Vec<&str>) = edit.files().into_iter().partition(|file| file.starts_with("src/"));
+        let [path] = code[..] else { return None };
         let file = self.files.iter().position(|file| file.path == path)?;
         let text = edit.change(path, self.files[file].text.clone()).ok()?;
         let (function, body) = self.files[file].changed_by(text)?;
-        Some(Changed { file, function, body })
+        let own = folder_of(&self.files[file].functions[function].path);
+        let part = |file: &str| {
+            let text = edit.change(file, read(&self.folder.join(file)).ok()?).ok()?;
+            file.starts_with(&own).then(|| (file.to_string(), text))
+        };
+        let proof = proof.into_iter().map(part).collect::<Option<_>>()?;
+        Some(Changed { file, function, body, proof })
     }
 
     fn function(&self, changed: &Changed) -> &Function {
@@ -155,7 +165,7 @@ impl Code {
         reached
     }
 
-    /// Writes the crate's code with these bodies in place of its own.
+    /// Writes the crate's code with these bodies, and their proofs, in place of its own.
     pub fn write(&self, folder: &Path, changed: &[&Changed]) -> Result<(), Stop> {
         for (number, file) in self.files.iter().enumerate() {
             let mut here: Vec<_> = changed.iter().filter(|one| one.file == number).collect();
@@ -166,6 +176,10 @@ impl Code {
                 text.replace_range(self.function(one).body.clone(), &one.body);
             }
             let path = folder.join(&file.path);
+            at(&path, fs::write(&path, text))?;
+        }
+        for (file, text) in changed.iter().flat_map(|one| &one.proof) {
+            let path = folder.join(file);
             at(&path, fs::write(&path, text))?;
         }
         Ok(())

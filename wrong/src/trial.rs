@@ -1,13 +1,12 @@
 //! One trial: a changed copy of a crate is checked. Many trials run side by side.
 
 use std::collections::BTreeMap;
-use std::process::{Command, Stdio};
 use std::sync::atomic::{AtomicUsize, Ordering};
 use std::sync::Mutex;
 use std::thread;
 use std::time::Instant;
 
-use crate::repository::{Repository, Shadow};
+use crate::repository::Room;
 use crate::Stop;
 
 /// What became of a changed crate.
@@ -34,104 +33,139 @@ impl Tried {
     }
 }
 
-/// Checks the crate as it stands in the shadow.
-pub fn check(shadow: &Shadow) -> Result<Tried, Stop> {
+/// Checks the crate as it stands in the room.
+pub fn check(room: &Room) -> Result<Tried, Stop> {
     let begin = Instant::now();
-    let ran = Command::new("rt").args(["dev", &shadow.name]).current_dir(&shadow.root).stdin(Stdio::null()).output();
-    let ran = ran.map_err(|error| format!("rt: {error}"))?;
-    let copied = format!("{}/", shadow.copied().display());
-    let log = [ran.stdout, ran.stderr].map(|bytes| String::from_utf8_lossy(&bytes).replace(&copied, "")).concat();
+    let ran = room.checked()?;
+    let log = [ran.stdout, ran.stderr].map(|bytes| plain(&String::from_utf8_lossy(&bytes))).concat();
     let verdict = verdict(ran.status.code(), &log);
     Ok(Tried { verdict, log, seconds: begin.elapsed().as_secs_f64(), edits: 1 })
 }
 
-/// As the toolchain's own gate judges an edit: refused by the prover is status 1 with its line; status 1 without that line is the compiler's.
+/// A log in which every path is one below the crate's folder.
+pub fn plain(log: &str) -> String {
+    log.lines().map(|line| line.strip_prefix("./").unwrap_or(line).replacen("note: ./", "note: ", 1) + "\n").collect()
+}
+
+/// Refused by the prover is status 1 with its line; status 1 without that line is the compiler's. A refusal counts for what shows that a fact does
+/// not hold, and not for a proof that names what the changed code does not have any more.
 pub fn verdict(status: Option<i32>, log: &str) -> Verdict {
-    let says = |start: &str| log.lines().any(|line| line.starts_with(start));
+    let lines: Vec<&str> = log.lines().collect();
+    let says = |start: &str| lines.iter().any(|line| line.starts_with(start));
     match status {
         Some(0) if says("logic=proved") => Verdict::Survived,
-        Some(1) if says("logic=not-proved") => Verdict::Refused { place: first_place(log), shape: for_shape(log) },
+        Some(1) if says("logic=not-proved") => match lines.iter().find(|line| unread(line)) {
+            Some(line) => Verdict::NoProgram(format!("the prover cannot read the changed text: {line}")),
+            None => match fact(&lines) {
+                Some(place) => Verdict::Refused { place, shape: false },
+                None => Verdict::Refused { place: first_place(&lines), shape: true },
+            },
+        },
         _ => Verdict::NoProgram(format!(
-            "it did not reach the prover (rt dev ended with {status:?}): {}",
-            first_line(log)
+            "it did not reach the prover, which ended with {status:?}: {}",
+            first_line(&lines)
         )),
     }
 }
 
 /// What a log says of one function alone, with its part of the log: a refusal, if the prover says that this function is not proved and does not lay
-/// it to another, and shows why: an error in its own proof, not for the code's shape, or a need that no proof was found of.
+/// it to another, and shows a fact of its own that does not hold.
 pub fn own_verdict(name: &str, path: &str, log: &str) -> Option<(Verdict, String)> {
     let lines: Vec<&str> = log.lines().collect();
     let said = format!("fn {name}::{path}: ");
     let at = lines.iter().position(|line| line.starts_with(&said))?;
-    let own = match &lines[at][said.len()..] {
-        "not proved" => errors_in(&format!("proofs/{}/", path.replace("::", "/")), &lines),
-        why if why.starts_with("no proof: ") && why.contains("`search` does not close") => notes_before(at, &lines),
-        _ => return None,
-    };
-    if own.is_empty() || for_shape(&own) {
+    let why = &lines[at][said.len()..];
+    if why != "not proved" && !why.starts_with("no proof: expected answers") {
         return None;
     }
-    Some((Verdict::Refused { place: first_place(&own), shape: false }, format!("{own}{}\n", lines[at])))
+    let own = [errors_in(&folder_of(path), &lines), notes_above(at, &lines).to_vec(), vec![lines[at]]].concat();
+    let place = fact(&own)?;
+    Some((Verdict::Refused { place, shape: false }, own.join("\n") + "\n"))
+}
+
+/// Where a function's proof files stand.
+pub fn folder_of(path: &str) -> String {
+    format!("proofs/{}/", path.replace("::", "/"))
 }
 
 /// The errors in a folder, each with the indented lines behind it.
-fn errors_in(folder: &str, lines: &[&str]) -> String {
+fn errors_in<'a>(folder: &str, lines: &[&'a str]) -> Vec<&'a str> {
     let mut inside = false;
-    let mut own = String::new();
+    let mut own = Vec::new();
     for line in lines {
         if !line.starts_with(' ') {
-            inside = line.starts_with(folder) && line.contains(": error");
+            inside = line.starts_with(folder) && line.contains(": error: ");
         }
         if inside {
-            own.push_str(line);
-            own.push('\n');
+            own.push(*line);
         }
     }
     own
 }
 
 /// What is noted above the line on a function, behind that on the one before.
-fn notes_before(at: usize, lines: &[&str]) -> String {
+fn notes_above<'a, 'b>(at: usize, lines: &'b [&'a str]) -> &'b [&'a str] {
     let before =
         lines[..at].iter().rposition(|line| ["fn ", "struct ", "enum "].iter().any(|start| line.starts_with(start)));
     let notes = &lines[before.map_or(0, |before| before + 1)..at];
     let first = notes.iter().position(|line| line.starts_with("note: src/"));
-    first.map_or(String::new(), |first| notes[first..].iter().map(|line| format!("{line}\n")).collect())
+    first.map_or(&[], |first| &notes[first..])
+}
+
+/// Where the first line of a log stands that shows that a fact does not hold: an error in a proof, or a goal that is left open. Where the function's
+/// proof names what is gone, the goal may be open for want of an answer under its name, so there it must be shown to be false.
+fn fact(lines: &[&str]) -> Option<String> {
+    let named = |at: usize| {
+        let function =
+            lines[at..].iter().find_map(|line| line.strip_prefix("fn ")?.split_once(": ")).map_or("", |said| said.0);
+        let folder = folder_of(function.split_once("::").map_or("", |path| path.1));
+        lines.iter().any(|line| line.starts_with(&folder) && names_what_is_gone(line))
+    };
+    let shows = |at: usize| {
+        let line = lines[at];
+        let open = line.starts_with("note: src/") && line.contains(": it is not proved that ");
+        is_error(line) && line.contains(": error: `") && !names_what_is_gone(line)
+            || open && (line.contains("the facts known there allow values at which this goal is false") || !named(at))
+    };
+    (0..lines.len()).find(|at| shows(*at)).map(|at| place(lines[at]))
+}
+
+/// An error whose first word is its place.
+fn is_error(line: &str) -> bool {
+    line.split_once(": error: ").is_some_and(|(place, _)| !place.contains(' '))
+}
+
+/// Whether an error is about names alone: in a proof it says nothing of whether the code is right.
+fn names_what_is_gone(line: &str) -> bool {
+    is_error(line)
+        && ["that can be named from here", "has no field", "is not in scope", "was not admitted"]
+            .iter()
+            .any(|said| line.contains(said))
+}
+
+/// Whether an error says that the prover could not read a text of src/ or specs/. An edit that only makes a statement false reads well.
+fn unread(line: &str) -> bool {
+    let stated = ["src/", "specs/"].iter().any(|part| line.starts_with(part));
+    stated
+        && is_error(line)
+        && (!line.contains(": error: `") || names_what_is_gone(line) && !line.contains("was not admitted"))
 }
 
 /// Where the first error stands; a refusal without one stands in a note.
-fn first_place(log: &str) -> String {
-    let error = log.lines().find_map(|line| Some(line.split_once(": error")?.0).filter(|place| !place.contains(' ')));
-    let note = || log.lines().find_map(|line| line.strip_prefix("note: ")?.split_whitespace().next());
-    error.or_else(note).unwrap_or("no place told").trim_end_matches(':').to_string()
+fn first_place(lines: &[&str]) -> String {
+    let error = lines.iter().find(|line| is_error(line));
+    error
+        .or_else(|| lines.iter().find(|line| line.starts_with("note: ")))
+        .map_or("no place told".to_string(), |line| place(line))
 }
 
-/// A proof that names what the changed code does not have any more says nothing of whether the code is right.
-fn for_shape(log: &str) -> bool {
-    let first = log.lines().find(|line| line.contains(": error")).unwrap_or("");
-    first.contains("that can be named from here") || first.contains("has no field")
+fn place(line: &str) -> String {
+    let line = line.strip_prefix("note: ").unwrap_or(line);
+    line.split_whitespace().next().unwrap_or("").trim_end_matches(':').to_string()
 }
 
-fn first_line(log: &str) -> &str {
-    log.lines().find(|line| line.contains("error")).unwrap_or("nothing said")
-}
-
-/// Brings each crate's incremental folder up to what stands, so that a trial checks only what its change touches.
-pub fn warm(repository: &Repository, names: &[&str]) -> Result<(), Stop> {
-    repository.prove_below(names)?;
-    let warmed = side_by_side(
-        names.len(),
-        |number, _| -> Result<(), Stop> {
-            let tried = check(&repository.warm_shadow(names[number])?)?;
-            match tried.verdict {
-                Verdict::Survived => Ok(()),
-                _ => Err(format!("{} is not proved as it stands:\n{}", names[number], tried.log)),
-            }
-        },
-        |_, _| (),
-    );
-    warmed.into_iter().collect()
+fn first_line<'a>(lines: &[&'a str]) -> &'a str {
+    lines.iter().find(|line| line.contains("error")).unwrap_or(&"nothing said")
 }
 
 fn workers() -> usize {
