@@ -143,12 +143,9 @@ fn names_what_is_gone(line: &str) -> bool {
             .any(|said| line.contains(said))
 }
 
-/// Whether an error says that the prover could not read a text of src/ or specs/. An edit that only makes a statement false reads well.
+/// Whether an error is one of src/ or specs/. What is stated there is to read well, also where an edit makes it false.
 fn unread(line: &str) -> bool {
-    let stated = ["src/", "specs/"].iter().any(|part| line.starts_with(part));
-    stated
-        && is_error(line)
-        && (!line.contains(": error: `") || names_what_is_gone(line) && !line.contains("was not admitted"))
+    is_error(line) && ["src/", "specs/"].iter().any(|part| line.starts_with(part))
 }
 
 /// Where the first error stands; a refusal without one stands in a note.
