@@ -53,9 +53,10 @@ impl Bar {
 const STACK: [(&str, usize); 3] = [("mk_hub_hear", 256), ("mk_go_on", 256), ("mk_reader_hear", 640)];
 const HUB_ALONE: usize = 6_000;
 
-/// Why a bar is missed, by the front of its name, as it was found in the code that stands now. The first that fits is
+/// Why a bar is missed, by the front of its name, as it was found in what the toolchain before this one compiled (0.4.2);
+/// what today's compiles has not been looked into. The first that fits is
 /// printed, so one for a bar alone, such as "hub block, garbage: proved to plain", stands before one for all blocks.
-const REASONS: [(&str, &str); 7] = [
+const REASONS: [(&str, &str); 8] = [
     (
         "hub block, short cards: proved to plain",
         "a card is 16 bytes, and half of the instructions are for the packet around them and the call that ends it. A plain
@@ -86,6 +87,10 @@ const REASONS: [(&str, &str); 7] = [
     four and one by one, where the bare copy is the C library's, and the fields are tested",
     ),
     (
+        "mk_hub_hear: ",
+        "it took 208 bytes as the toolchain before this one compiled it; what takes the rest has not been looked into",
+    ),
+    (
         "mk_hub_hear_block: ",
         "208 bytes are the event's that ends a packet, mk_hub_hear, as alone; 40 are arguments that no register holds, 56 the
     return address and six saved registers, 120 the frame of the two loops, 8 for alignment. With one function that
@@ -96,14 +101,14 @@ const REASONS: [(&str, &str); 7] = [
         "48 bytes are arguments that no register holds, 56 the return address and six saved registers, 424 the frame, in
     which the parts of the control value stand one by one. sender::hear, which an ACK or a NAK calls, takes 144 more and
     sender::present below it 32; by a PARAM_SEND table::set takes 128. The control value goes by value through the
-    event, the table in it: a struct lent by reference is beyond what the prover walks by itself, and the event taken
+    event, the table in it: a struct lent by reference was beyond what the prover then walked by itself, and the event taken
     apart over the control bytes says the reader's rules a second time",
     ),
 ];
 
 /// `by` says what the rows were measured by.
 pub fn print(by: &str, rows: &[Measured], depths: &Depths, code: &Code) {
-    println!("bar ({by})");
+    println!("bar ({by}; the reasons were found in what the toolchain before this one compiled)");
     for row in rows {
         row.bars.iter().filter_map(|against| Bar::of_row(row, *against)).for_each(|bar| bar.print());
     }
