@@ -13,11 +13,11 @@ use borrow.Author.Tests.{eq-eqb, ne_eqb, lt-ltb, le-ltb, ltb-true, eqb-true, eqb
 use Rattle.words.specs.Lists.{pick, both, either, over, over_at}
 use Rattle.words.proofs.Lists.{length_over_at, part_over, set_over, both_left, both_right, never, either_true, over_behind}
 use Rattle.packet.specs.declared.Refusal.TheVariants.{Room}
+use Rattle.std.specs.Prelude.{Ok, Err}
 use Rattle.table.specs.Rows.{parameter_count, pairs_size, rows, place_of, supported}
 use Rattle.table.specs.Table.{Values, value_of, member, asked_for, numbers_of, answered_numbers, pair_bytes, answer_data}
 use Rattle.table.specs.Promises.{Answers, Place, AsksAll, AllPairs, AskedPairs, Fits, Asks, asks, marks, showing, values_of}
 use Rattle.table.specs.declared.Table.{Table}
-use Rattle.table.specs.declared.Written.TheVariants.{Bytes, Refused}
 use Rattle.table.proofs.Finding.{many, place_at, same_place}
 
 -- ---- `asks_all`
@@ -321,7 +321,7 @@ asking_all {values} {asked} {room₀} {i = i} k h =
 
 -- ---- `answer`
 
-pub answer_room : {t : Table} {asked room : List ℕ} → length room < pairs_size → Answers t asked room (Refused Room) room
+pub answer_room : {t : Table} {asked room : List ℕ} → length room < pairs_size → Answers t asked room (Err Room) room
 unfolding over
 answer_room {t} {asked} {room} h = record { is = simp (lt-ltb (length room) (pairs_size) h); room_is = simp (lt-ltb (length room) (pairs_size) h) }
 
@@ -333,14 +333,14 @@ answer_data_lem t asked ns a = rw (a, pairs_shown t ns) refl
 answer_by : (t : Table) (asked room part ns : List ℕ) (count : ℕ) → pairs_size ≤ length room → answered_numbers asked ≡ ns →
     count ≡ length (pair_bytes (showing t.present) ns) → count ≤ 2 * parameter_count →
     part ≡ over (pair_bytes (showing t.present) ns) (take (length (set room 0 0xFF) - 1) (drop 1 (set room 0 0xFF))) →
-    Answers t asked room (Bytes (count + 1)) (take 1 (set room 0 0xFF) ++ (part ++ drop (length (set room 0 0xFF) - 1) (drop 1 (set room 0 0xFF))))
+    Answers t asked room (Ok (count + 1)) (take 1 (set room 0 0xFF) ++ (part ++ drop (length (set room 0 0xFF) - 1) (drop 1 (set room 0 0xFF))))
 answer_by t asked room part ns count h a n m e =
     let q = pair_bytes (showing t.present) ns in
     let l = length-set room 0 0xFF in
     let y = le-ltb (length room) (pairs_size) h in
     let d = answer_data_lem t asked ns a in
     record {
-      is = simp (y, d) (ap Bytes (omega arith));
+      is = simp (y, d) (ap Ok (omega arith));
       room_is =
           part_over 1 (length (set room 0 0xFF) - 1) q (set room 0 0xFF) part (omega arith) (omega arith) e
           ∙ simp (y, d) (rw (set_over room 0 0xFF (omega arith)) (over_behind 1 (0xFF ∷ []) q room refl));
@@ -348,11 +348,11 @@ answer_by t asked room part ns count h a n m e =
 
 module _ {t : Table} {asked room part : List ℕ} {count : ℕ} {b : Bool} (h : pairs_size ≤ length room) (k : AsksAll asked b) where
   pub answer_all : b ≡ true → AllPairs t.present (take (length (set room 0 0xFF) - 1) (drop 1 (set room 0 0xFF))) count part →
-      Answers t asked room (Bytes (count + 1)) (take 1 (set room 0 0xFF) ++ (part ++ drop (length (set room 0 0xFF) - 1) (drop 1 (set room 0 0xFF))))
+      Answers t asked room (Ok (count + 1)) (take 1 (set room 0 0xFF) ++ (part ++ drop (length (set room 0 0xFF) - 1) (drop 1 (set room 0 0xFF))))
   unfolding answered_numbers
   answer_all e p = answer_by t asked room part (numbers_of rows) count h (simp (sym k.is ∙ e)) p.is p.most p.room_is
 
   pub answer_asked : b ≡ false → AskedPairs t.present asked (take (length (set room 0 0xFF) - 1) (drop 1 (set room 0 0xFF))) count part →
-      Answers t asked room (Bytes (count + 1)) (take 1 (set room 0 0xFF) ++ (part ++ drop (length (set room 0 0xFF) - 1) (drop 1 (set room 0 0xFF))))
+      Answers t asked room (Ok (count + 1)) (take 1 (set room 0 0xFF) ++ (part ++ drop (length (set room 0 0xFF) - 1) (drop 1 (set room 0 0xFF))))
   unfolding answered_numbers
   answer_asked e p = answer_by t asked room part (asked_for [] asked) count h (simp (sym k.is ∙ e)) p.is p.most p.room_is

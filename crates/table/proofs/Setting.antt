@@ -19,9 +19,7 @@ use Rattle.table.specs.Rows.{parameter_count, rows, place_of, allowed, defaults_
 use Rattle.table.specs.Table.{Values, Pair, Reading, wrong_length, pairs, behind, read_pairs, is_read, send_length_allowed, request_length_allowed, locked_in, settable, all_settable, set_all, changed, done, refused, set_pairs, no_locks, defaults, set_defaults, power_up}
 use Rattle.table.specs.Promises.{Defaults, SetsDefaults, PowerUp, Sets, SendLengthAllowed, RequestLengthAllowed, Restores, Place, RowAllows, Even, Settable, AllSettable, Judges, judged_of, Full, Puts, PutsIf, Changes, pairs_of, values_of, changed_of}
 use Rattle.table.specs.declared.Table.{Table}
-use Rattle.table.specs.declared.Changed.{Changed}
-use Rattle.table.specs.declared.Verdict.{Verdict}
-use Rattle.table.specs.declared.Verdict.TheVariants.{Done, Refused}
+use Rattle.std.specs.Prelude.{Result, Ok, Err}
 use Rattle.table.proofs.Finding.{restored_none, allowed_unknown, allowed_row}
 
 module _ {t : Table} {present permanent : List ℕ} (p : Restores t.locked t.present present) (q : Restores t.locked t.permanent permanent) where
@@ -208,52 +206,52 @@ changing_more {forever} k h p q =
     }
 
 pub changed_all : {t : Table} {bytes next lasting : List ℕ} {forever : Bool} {i : ℕ} → Changing forever t.present t.permanent bytes next lasting i → length bytes ≤ i →
-    Changes t bytes forever (record { table = record { present = next; permanent = lasting; locked = t.locked }; verdict = Done })
+    Changes t bytes forever (record { present = next; permanent = lasting; locked = t.locked })
 unfolding changed
 changed_all {forever = forever} k h = record { is = rw (putting_end true k.now_set h, putting_end forever k.ever_set h) refl }
 
 -- ---- `judged` and `set`
 
 module _ {locked : List Bool} {bytes : List ℕ} where
-  pub judged_length : (length bytes % 2 ≡ 0 → ⊥) → Judges locked bytes (Refused Data)
+  pub judged_length : (length bytes % 2 ≡ 0 → ⊥) → Judges locked bytes (Err Data)
   unfolding judged_of
   judged_length d = record { is = rw (read_odd bytes d) refl; even = λ e. never (cc) }
 
   module _ {r : Bool} (e : length bytes % 2 ≡ 0) (j : AllSettable locked bytes r) where
-    pub judged_done : r ≡ true → Judges locked bytes Done
+    pub judged_done : r ≡ true → Judges locked bytes (Ok tt)
     unfolding judged_of
     judged_done f = record { is = rw (read_even bytes e) (simp (sym j.is ∙ f)); even = λ _. record { is = e } }
 
-    pub judged_refused : r ≡ false → Judges locked bytes (Refused Setting)
+    pub judged_refused : r ≡ false → Judges locked bytes (Err Setting)
     unfolding judged_of
     judged_refused f = record { is = rw (read_even bytes e) (simp (sym j.is ∙ f)); even = λ e. never (cc) }
 
 -- A list that was judged so is set, and one that was not is refused for the same reason.
 module _ (v : Values) where
-  tested : (d : Bool) → pick d Done (Refused Setting) ≡ Done → pick d (done v) (refused Setting) ≡ done v
+  tested : (d : Bool) → pick {A = Result Unit Refusal} d (Ok tt) (Err Setting) ≡ Ok tt → pick d (done v) (refused Setting) ≡ done v
   tested true e = refl
   tested false e = never (cc)
 
-  denied : (d : Bool) (x : Refusal) → pick d Done (Refused Setting) ≡ Refused x → pick d (done v) (refused Setting) ≡ refused x
+  denied : (d : Bool) (x : Refusal) → pick {A = Result Unit Refusal} d (Ok tt) (Err Setting) ≡ Err x → pick d (done v) (refused Setting) ≡ refused x
   denied true x e = never (cc)
   denied false x e = cc
 
 module _ (t : Table) (forever : Bool) where
-  done_by : (r : Reading) → judged_of t.locked r ≡ Done → set_pairs forever r (values_of t) ≡ done (changed forever (pairs_of r) (values_of t))
+  done_by : (r : Reading) → judged_of t.locked r ≡ Ok tt → set_pairs forever r (values_of t) ≡ done (changed forever (pairs_of r) (values_of t))
   unfolding judged_of set_pairs pairs_of
   done_by wrong_length e = never (cc)
   done_by (pairs ps) e = tested (changed forever ps (values_of t)) (all_settable t.locked ps) e
 
-  refused_by : (r : Reading) (x : Refusal) → judged_of t.locked r ≡ Refused x → set_pairs forever r (values_of t) ≡ refused x
+  refused_by : (r : Reading) (x : Refusal) → judged_of t.locked r ≡ Err x → set_pairs forever r (values_of t) ≡ refused x
   unfolding judged_of set_pairs
   refused_by wrong_length x e = cc
   refused_by (pairs ps) x e = denied (changed forever ps (values_of t)) (all_settable t.locked ps) x e
 
-module _ {t : Table} {bytes : List ℕ} {forever : Bool} {v : Verdict} (j : Judges t.locked bytes v) where
-  pub set_done : {x : Changed} → v ≡ Done → Changes t bytes forever x → Sets t bytes forever x
+module _ {t : Table} {bytes : List ℕ} {forever : Bool} {v : Result Unit Refusal} (j : Judges t.locked bytes v) where
+  pub set_done : {x : Table} → v ≡ Ok tt → Changes t bytes forever x → Sets t bytes forever (Ok x)
   unfolding changed_of
-  set_done e c = record { is = c.is ∙ rw (done_by t forever (read_pairs bytes) (sym j.is ∙ e)) refl }
+  set_done e c = record { is = ap Ok c.is ∙ rw (done_by t forever (read_pairs bytes) (sym j.is ∙ e)) refl }
 
-  pub set_refused : {x : Refusal} → v ≡ Refused x → Sets t bytes forever (record { table = t; verdict = Refused x })
+  pub set_refused : {x : Refusal} → v ≡ Err x → Sets t bytes forever (Err x)
   unfolding changed_of
   set_refused {x} e = record { is = rw (refused_by t forever (read_pairs bytes) x (sym j.is ∙ e)) refl }

@@ -16,10 +16,9 @@ use Rattle.packet.specs.declared.Refusal.{Refusal}
 use Rattle.packet.specs.declared.Refusal.TheVariants.{Data, Setting, Room}
 use Rattle.table.specs.Rows.{parameter_count, pairs_size, rows, place_in, place_of, supported, trigger_allowed, range_allowed, row_allows, allowed, defaults_of}
 use Rattle.table.specs.Table.{Values, Pair, Reading, wrong_length, pairs, locked_in, settable, all_settable, set_all, changed, done, refused, set_pairs, defaults, restored, set_defaults, power_up, member, asked_for, numbers_of, answered_numbers, answer_data}
-use Rattle.table.specs.Promises.{Answers, values_of, changed_of, marks}
+use Rattle.table.specs.Promises.{Answers, values_of, changed_of, left_of, marks}
 use Rattle.table.specs.declared.Table.{Table}
-use Rattle.table.specs.declared.Written.{Written}
-use Rattle.table.specs.declared.Written.TheVariants.{Bytes, Refused}
+use Rattle.std.specs.Prelude.{Result, Ok, Err}
 use Rattle.table.proofs.Finding.{many, number_at, same_place, length_defaults, length_restored, restored_at}
 use Rattle.table.proofs.Answering.{marks_set, marks_most, marks_none, marked_by, member_append, length_pairs, either_false, either_assoc}
 
@@ -59,8 +58,8 @@ unnamed_kept true ps t n s e = (set_kept ps t.present n s e, set_kept ps t.perma
 unnamed_kept false ps t n s e = (set_kept ps t.present n s e, refl)
 
 -- A refused list changes nothing.
-pub refused_changes_nothing : (t : Table) (r : Refusal) → (changed_of t (refused r)).table ≡ t
-unfolding changed_of
+pub refused_changes_nothing : (t : Table) (r : Refusal) → left_of t (changed_of (refused r)) ≡ t
+unfolding changed_of left_of
 refused_changes_nothing t r = refl
 
 -- One pair that may not be set, wherever it stands, refuses the whole list.
@@ -481,12 +480,12 @@ answer_most t asked =
     let m = once_most (answered_numbers asked) (answer_names_once asked) in
     omega arith
 
-answered_by_room : (d : Bool) (l n : ℕ) → l ≤ pairs_size → pick d (Refused Room) (Bytes l) ≡ Bytes n → n ≤ pairs_size
+answered_by_room : (d : Bool) (l n : ℕ) → l ≤ pairs_size → pick {A = Result ℕ Refusal} d (Err Room) (Ok l) ≡ Ok n → n ≤ pairs_size
 answered_by_room true l n h e = never (cc)
 answered_by_room false l n h e = let z : l ≡ n = cc in omega arith
 
 -- The same of the number of bytes that `answer` gives back, for its callers.
-pub answered_most : {t : Table} {asked room room' : List ℕ} {r : Written} {n : ℕ} → Answers t asked room r room' → r ≡ Bytes n → n ≤ pairs_size
+pub answered_most : {t : Table} {asked room room' : List ℕ} {r : Result ℕ Refusal} {n : ℕ} → Answers t asked room r room' → r ≡ Ok n → n ≤ pairs_size
 answered_most {t} {asked} {room} {n = n} k e = answered_by_room (ltb (length room) pairs_size) (length (answer_data (values_of t) asked)) n (answer_most (values_of t) asked) (sym k.is ∙ e)
 
 member_there : (n : ℕ) (xs ys : List ℕ) → member n (xs ++ (n ∷ ys)) ≡ true

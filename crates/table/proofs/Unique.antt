@@ -4,8 +4,8 @@ use mathlib.Core.Path.{◌≡◌, sym, ◌∙◌}
 use mathlib.Core.Bool.{Bool}
 use mathlib.Core.List.{List}
 use Rattle.table.specs.declared.Table.{Table}
-use Rattle.table.specs.declared.Changed.{Changed}
-use Rattle.table.specs.declared.Written.{Written}
+use Rattle.std.specs.Prelude.{Result}
+use Rattle.packet.specs.declared.Refusal.{Refusal}
 use Rattle.table.specs.Promises.{Defaults, SetsDefaults, PowerUp, Sets, SendLengthAllowed, RequestLengthAllowed, Value, Locked, Allowed, Answers}
 
 pub defaults_unique : {r r' : Table} → Defaults r → Defaults r' → r ≡ r'
@@ -17,7 +17,7 @@ set_defaults_unique p q = p.is ∙ sym q.is
 pub power_up_unique : {t r r' : Table} → PowerUp t r → PowerUp t r' → r ≡ r'
 power_up_unique p q = p.is ∙ sym q.is
 
-pub set_unique : {t : Table} {bytes : List ℕ} {forever : Bool} {r r' : Changed} → Sets t bytes forever r → Sets t bytes forever r' → r ≡ r'
+pub set_unique : {t : Table} {bytes : List ℕ} {forever : Bool} {r r' : Result Table Refusal} → Sets t bytes forever r → Sets t bytes forever r' → r ≡ r'
 set_unique p q = p.is ∙ sym q.is
 
 pub send_length_allowed_unique : {carried : List ℕ} {r r' : Bool} → SendLengthAllowed carried r → SendLengthAllowed carried r' → r ≡ r'
@@ -35,5 +35,5 @@ locked_unique p q = p.is ∙ sym q.is
 pub allowed_unique : {number value : ℕ} {r r' : Bool} → Allowed number value r → Allowed number value r' → r ≡ r'
 allowed_unique p q = p.is ∙ sym q.is
 
-pub answer_unique : {t : Table} {asked room room₁ room₂ : List ℕ} {r r' : Written} → Answers t asked room r room₁ → Answers t asked room r' room₂ → (r ≡ r') × (room₁ ≡ room₂)
+pub answer_unique : {t : Table} {asked room room₁ room₂ : List ℕ} {r r' : Result ℕ Refusal} → Answers t asked room r room₁ → Answers t asked room r' room₂ → (r ≡ r') × (room₁ ≡ room₂)
 answer_unique p q = (p.is ∙ sym q.is, p.room_is ∙ sym q.room_is)

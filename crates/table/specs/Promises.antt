@@ -1,15 +1,11 @@
 -- What the table's calls promise: the answer, the table, and every byte of the room.
-use Rattle.std.specs.Prelude.{ℕ, ◌+◌, ◌*◌, ◌%◌, ◌≤◌, Bool, true, false, not, List, [], ◌∷◌, ◌≡◌, ltb, length, get_or, set}
+use Rattle.std.specs.Prelude.{ℕ, ◌+◌, ◌*◌, ◌%◌, ◌≤◌, Bool, true, false, not, List, [], ◌∷◌, ◌≡◌, ltb, length, get_or, set, Result, Ok, Err}
 use Rattle.words.specs.Lists.{pick, both, over, over_at}
+use Rattle.packet.specs.declared.Refusal.{Refusal}
 use Rattle.packet.specs.declared.Refusal.TheVariants as refusal
 use Rattle.table.specs.Rows.{parameter_count, pairs_size, rows, place_of, trigger_allowed, row_allows, allowed, defaults_of}
 use Rattle.table.specs.Table.{Values, Pair, Reading, wrong_length, pairs, read_pairs, send_length_allowed, request_length_allowed, locked_in, settable, all_settable, changed, Outcome, done, refused, set_pairs, defaults, restored, set_defaults, power_up, value_of, member, asked_for, numbers_of, pair_bytes, answer_data}
 use Rattle.table.specs.declared.Table.{Table}
-use Rattle.table.specs.declared.Verdict.{Verdict}
-use Rattle.table.specs.declared.Verdict.TheVariants as verdict
-use Rattle.table.specs.declared.Changed.{Changed}
-use Rattle.table.specs.declared.Written.{Written}
-use Rattle.table.specs.declared.Written.TheVariants as written
 
 -- What a table stands for.
 abbrev pub values_of : Table → Values
@@ -18,10 +14,15 @@ values_of t = record { present = t.present; permanent = t.permanent; locked = t.
 abbrev pub table_of : Values → Table
 table_of v = record { present = v.present; permanent = v.permanent; locked = v.locked }
 
--- The answers that are enums.
-unfoldable pub changed_of : Table → Outcome → Changed
-changed_of t (done v) = record { table = table_of v; verdict = verdict.Done }
-changed_of t (refused r) = record { table = t; verdict = verdict.Refused r }
+-- What became of a list of settings: the new table, or the refusal.
+unfoldable pub changed_of : Outcome → Result Table Refusal
+changed_of (done v) = Ok (table_of v)
+changed_of (refused r) = Err r
+
+-- What the caller has then: the new table, or on a refusal its own as it was.
+unfoldable pub left_of : Table → Result Table Refusal → Table
+left_of t (Ok t') = t'
+left_of t (Err r) = t
 
 pub record Defaults (r : Table) : Type 0 where
   pub is : r ≡ table_of defaults
@@ -32,8 +33,8 @@ pub record SetsDefaults (t r : Table) : Type 0 where
 pub record PowerUp (t r : Table) : Type 0 where
   pub is : r ≡ table_of (power_up (values_of t))
 
-pub record Sets (t : Table) (bytes : List ℕ) (forever : Bool) (r : Changed) : Type 0 where
-  pub is : r ≡ changed_of t (set_pairs forever (read_pairs bytes) (values_of t))
+pub record Sets (t : Table) (bytes : List ℕ) (forever : Bool) (r : Result Table Refusal) : Type 0 where
+  pub is : r ≡ changed_of (set_pairs forever (read_pairs bytes) (values_of t))
 
 pub record SendLengthAllowed (carried : List ℕ) (r : Bool) : Type 0 where
   pub is : r ≡ send_length_allowed carried
@@ -51,8 +52,8 @@ pub record Allowed (number value : ℕ) (r : Bool) : Type 0 where
   pub is : r ≡ allowed number value
 
 -- The pair writer: 13 for room too small for the longest answer; else the data, and nothing beyond it.
-pub record Answers (t : Table) (asked room : List ℕ) (r : Written) (room' : List ℕ) : Type 0 where
-  pub is : r ≡ pick (ltb (length room) pairs_size) (written.Refused refusal.Room) (written.Bytes (length (answer_data (values_of t) asked)))
+pub record Answers (t : Table) (asked room : List ℕ) (r : Result ℕ Refusal) (room' : List ℕ) : Type 0 where
+  pub is : r ≡ pick (ltb (length room) pairs_size) (Err refusal.Room) (Ok (length (answer_data (values_of t) asked)))
   pub room_is : room' ≡ over (pick (ltb (length room) pairs_size) [] (answer_data (values_of t) asked)) room
 
 -- ---- the functions inside
@@ -88,13 +89,13 @@ pub record AllSettable (locked : List Bool) (bytes : List ℕ) (r : Bool) : Type
   pub is : r ≡ all_settable locked (pairs_of (read_pairs bytes))
 
 -- Whether a list may be set, whatever the values are.
-unfoldable pub judged_of : List Bool → Reading → Verdict
-judged_of locked wrong_length = verdict.Refused refusal.Data
-judged_of locked (pairs ps) = pick (all_settable locked ps) verdict.Done (verdict.Refused refusal.Setting)
+unfoldable pub judged_of : List Bool → Reading → Result Unit Refusal
+judged_of locked wrong_length = Err refusal.Data
+judged_of locked (pairs ps) = pick (all_settable locked ps) (Ok tt) (Err refusal.Setting)
 
-pub record Judges (locked : List Bool) (bytes : List ℕ) (r : Verdict) : Type 0 where
+pub record Judges (locked : List Bool) (bytes : List ℕ) (r : Result Unit Refusal) : Type 0 where
   pub is : r ≡ judged_of locked (read_pairs bytes)
-  pub even : r ≡ verdict.Done → Even bytes
+  pub even : r ≡ Ok tt → Even bytes
 
 -- A value for each parameter.
 pub record Full (values : List ℕ) : Type 0 where
@@ -106,8 +107,8 @@ pub record Puts (values : List ℕ) (number value : ℕ) (r : List ℕ) : Type 0
 pub record PutsIf (asked : Bool) (values : List ℕ) (number value : ℕ) (r : List ℕ) : Type 0 where
   pub is : r ≡ pick asked (set values (place_of number) value) values
 
-pub record Changes (t : Table) (bytes : List ℕ) (forever : Bool) (r : Changed) : Type 0 where
-  pub is : r ≡ record { table = table_of (changed forever (pairs_of (read_pairs bytes)) (values_of t)); verdict = verdict.Done }
+pub record Changes (t : Table) (bytes : List ℕ) (forever : Bool) (r : Table) : Type 0 where
+  pub is : r ≡ table_of (changed forever (pairs_of (read_pairs bytes)) (values_of t))
 
 pub record AsksAll (asked : List ℕ) (r : Bool) : Type 0 where
   pub is : r ≡ member 0xFE asked

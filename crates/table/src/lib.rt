@@ -33,26 +33,6 @@ pub struct Table {
     pub permanent: [u8; PARAMETER_COUNT],
 }
 
-// What became of a list of settings.
-#[derive(Clone, Copy)]
-pub enum Verdict {
-    Done,
-    Refused(Refusal),
-}
-
-#[derive(Clone, Copy)]
-pub struct Changed {
-    pub table: Table,
-    pub verdict: Verdict,
-}
-
-// What the pair writer did.
-#[derive(Clone, Copy)]
-pub enum Written {
-    Bytes(usize),
-    Refused(Refusal),
-}
-
 // The house defaults, present and permanent, with nothing locked.
 pub fn defaults() -> Table
     ensures { Defaults result }
@@ -114,30 +94,24 @@ pub fn power_up(table: Table) -> Table
 }
 
 // Sets a list of pairs, number and value, all or nothing: 7 for a number with nothing after it, then 9, for a locked one too.
-pub fn set(table: Table, pairs: &[u8], permanent: bool) -> Changed
+pub fn set(table: Table, pairs: &[u8], permanent: bool) -> Result<Table, Refusal>
     ensures { Sets table pairs.now permanent result }
 {
-    let locked = table.locked;
-    match judged(locked, pairs) {
-        Verdict::Done => change(table, pairs, permanent),
-        Verdict::Refused(refusal) => Changed {
-            table,
-            verdict: Verdict::Refused(refusal),
-        },
-    }
+    judged(table.locked, pairs)?;
+    Ok(change(table, pairs, permanent))
 }
 
 // Whether a list may be set. It takes the locks alone, so that no table is moved for it.
-fn judged(locked: [bool; PARAMETER_COUNT], pairs: &[u8]) -> Verdict
+fn judged(locked: [bool; PARAMETER_COUNT], pairs: &[u8]) -> Result<(), Refusal>
     ensures { Judges locked pairs.now result }
 {
     if pairs.len() % 2 != 0 {
-        return Verdict::Refused(Refusal::Data);
+        return Err(Refusal::Data);
     }
     if all_settable(locked, pairs) {
-        return Verdict::Done;
+        return Ok(());
     }
-    Verdict::Refused(Refusal::Setting)
+    Err(Refusal::Setting)
 }
 
 // Whether the data of a PARAM_SEND is a beep byte and pairs behind it.
@@ -158,7 +132,7 @@ pub fn request_length_allowed(data: &[u8]) -> bool
 }
 
 // Without permanent only present values change; with it both do.
-fn change(table: Table, pairs: &[u8], permanent: bool) -> Changed
+fn change(table: Table, pairs: &[u8], permanent: bool) -> Table
     requires { Even pairs.now }
     ensures { Changes table pairs.now permanent result }
 {
@@ -171,13 +145,10 @@ fn change(table: Table, pairs: &[u8], permanent: bool) -> Changed
         put_if(permanent, &mut lasting, pairs[i], pairs[i + 1]);
         i += 2;
     }
-    Changed {
-        table: Table {
-            present,
-            permanent: lasting,
-            locked,
-        },
-        verdict: Verdict::Done,
+    Table {
+        present,
+        permanent: lasting,
+        locked,
     }
 }
 
@@ -206,20 +177,20 @@ pub fn locked(table: Table, number: u8) -> bool
 }
 
 // The data of the PARAM_SEND that answers a request: beep byte FFh, then the pairs. 13 for room under PAIRS_SIZE.
-pub fn answer(table: Table, asked: &[u8], room: &mut [u8]) -> Written
+pub fn answer(table: Table, asked: &[u8], room: &mut [u8]) -> Result<usize, Refusal>
     ensures { Answers table asked.now room.old result room.new }
 {
     if room.len() < PAIRS_SIZE {
-        return Written::Refused(Refusal::Room);
+        return Err(Refusal::Room);
     }
     let values = table.present;
     room[0] = 0xFF;
     if asks_all(asked) {
         let count = all_pairs(values, &mut room[1..]);
-        return Written::Bytes(count + 1);
+        return Ok(count + 1);
     }
     let count = asked_pairs(values, asked, &mut room[1..]);
-    Written::Bytes(count + 1)
+    Ok(count + 1)
 }
 
 // FEh anywhere in the list.
