@@ -14,8 +14,7 @@ use Rattle.packet.specs.Opcodes.{decode_data, host, reader}
 use Rattle.packet.specs.Packet.{status_allowed, source_allowed, fields_of, check_of, checksum_of, checksum_in, body_in, data_in, head_in}
 use Rattle.packet.specs.Promises.{Sum, Check, DataPart, Allowed, AllowedSource, Fields}
 use Rattle.packet.specs.declared.Refusal.TheVariants.{Length, Checksum, Cut, Source, Status, Data}
-use Rattle.packet.specs.declared.Checked.TheVariants as checked
-use Rattle.packet.specs.declared.Built.TheVariants.{Written, Refused}
+use Rattle.std.specs.Prelude.{Ok, Err}
 
 pub status_bit_2 : {o t : ℕ} → (t / 4 % 2 ≡ 0 → ⊥) → Allowed o t false
 unfolding status_allowed
@@ -47,25 +46,25 @@ unfolding source_allowed
 source_other {s} h = record { is = simp (ne_eqb s 0 h) }
 
 module _ {o s t n : ℕ} {a : Bool} (p : AllowedSource s a) where
-  pub fields_source : a ≡ false → Fields o s t n (Refused Source)
+  pub fields_source : a ≡ false → Fields o s t n (Err Source)
   unfolding fields_of
   fields_source e = record { is = simp (sym p.is ∙ e) }
 
 module _ {o s t n : ℕ} {a b : Bool} (p : AllowedSource s a) (e : a ≡ true) (q : Allowed o t b) where
-  pub fields_status : b ≡ false → Fields o s t n (Refused Status)
+  pub fields_status : b ≡ false → Fields o s t n (Err Status)
   unfolding fields_of
   fields_status f = record { is = simp (sym p.is ∙ e, sym q.is ∙ f) }
 
-  pub fields_data : b ≡ true → 251 < n → Fields o s t n (Refused Data)
+  pub fields_data : b ≡ true → 251 < n → Fields o s t n (Err Data)
   unfolding fields_of
   fields_data f h = record { is = simp (sym p.is ∙ e, sym q.is ∙ f, lt-leb n 251 h) }
 
-  pub fields_right : b ≡ true → n ≤ 251 → Fields o s t n (Written (n + 6))
+  pub fields_right : b ≡ true → n ≤ 251 → Fields o s t n (Ok (n + 6))
   unfolding fields_of
   fields_right f h = record { is = simp (sym p.is ∙ e, sym q.is ∙ f, le-leb n 251 h) }
 
 -- The packet check, in the order of its tests.
-pub check_none : {s : List ℕ} → length s ≡ 0 → Check s (checked.Refused Cut)
+pub check_none : {s : List ℕ} → length s ≡ 0 → Check s (Err Cut)
 unfolding check_of
 check_none {s} e = record { is = simp (eq-eqb (length s) 0 e) }
 
@@ -75,20 +74,20 @@ unfolding checksum_in checksum_of body_in
 same_checksum s first hi lo sum = simp (sym first.is, sym hi.is, sym lo.is, sym sum.is)
 
 module _ {s : List ℕ} {n : ℕ} (some : length s ≡ 0 → ⊥) (first : Wide (get_or s 0 0) n) where
-  pub check_length : n < 4 → Check s (checked.Refused Length)
+  pub check_length : n < 4 → Check s (Err Length)
   unfolding check_of
   check_length h = record { is = simp (ne_eqb (length s) 0 some, sym first.is, lt-ltb n 4 h) }
 
-  pub check_cut : 4 ≤ n → length s < n + 2 → Check s (checked.Refused Cut)
+  pub check_cut : 4 ≤ n → length s < n + 2 → Check s (Err Cut)
   unfolding check_of
   check_cut h l = record { is = simp (ne_eqb (length s) 0 some, sym first.is, le-ltb n 4 h, lt-ltb (length s) (n + 2) l) }
 
   module _ {high low total : ℕ} (h : 4 ≤ n) (l : n + 2 ≤ length s) (hi : Wide (get_or s n 0) high) (lo : Wide (get_or s (n + 1) 0) low) (sum : Sum (take n s) total) where
-    pub check_right : high * 256 + low ≡ 65536 - total → Check s (checked.Packet (record { length = n; opcode = get_or s 1 0; source = get_or s 2 0; status = get_or s 3 0 }))
+    pub check_right : high * 256 + low ≡ 65536 - total → Check s (Ok (record { length = n; opcode = get_or s 1 0; source = get_or s 2 0; status = get_or s 3 0 }))
     unfolding check_of head_in
     check_right e = record { is = simp (ne_eqb (length s) 0 some, same_checksum s first hi lo sum, eq-eqb (high * 256 + low) (65536 - total) e, sym first.is, le-ltb n 4 h, le-ltb (length s) (n + 2) l) }
 
-    pub check_wrong : (high * 256 + low ≡ 65536 - total → ⊥) → Check s (checked.Refused Checksum)
+    pub check_wrong : (high * 256 + low ≡ 65536 - total → ⊥) → Check s (Err Checksum)
     unfolding check_of
     check_wrong d = record { is = simp (ne_eqb (length s) 0 some, same_checksum s first hi lo sum, ne_eqb (high * 256 + low) (65536 - total) d, sym first.is, le-ltb n 4 h, le-ltb (length s) (n + 2) l) }
 

@@ -19,7 +19,7 @@ use Rattle.packet.specs.Refusals.{number_of, cause_of}
 use Rattle.packet.specs.declared.Refusal.{Refusal}
 use Rattle.packet.specs.declared.Refusal.TheVariants.{Length, Checksum, Cut, Source, Status, Opcode, Data, Beep, Setting, Barred, Start, Form, Room, Long}
 use Rattle.packet.specs.declared.Head.{Head}
-use Rattle.packet.specs.declared.Checked.TheVariants.{Packet, Refused}
+use Rattle.std.specs.Prelude.{Ok, Err}
 use Rattle.packet.proofs.Judge.{check_right}
 use Rattle.packet.proofs.Sums.{sum_most}
 use Rattle.packet.proofs.Writing.{length_seal, length_body}
@@ -69,7 +69,7 @@ module _ (b rest : List ℕ) (k : Body b) where
   high_byte : get_or (seal b ++ rest) (length b) 0 ≡ checksum_of b / 256 % 256
   high_byte = let e : length b ≡ length b + 0 = omega arith in rw e (behind 0)
 
-  pub sealed_check : Check (seal b ++ rest) (Packet (head_in b))
+  pub sealed_check : Check (seal b ++ rest) (Ok (head_in b))
   unfolding head_in checksum_of
   sealed_check =
       let low = k.least in
@@ -96,7 +96,7 @@ module _ (b rest : List ℕ) (k : Body b) where
 
 -- What building writes the check accepts, with the same opcode, source, status and data, whatever bytes follow.
 pub built_found : (o s t : ℕ) (d rest : List ℕ) → Body (body_of o s t d) →
-    check_of (seal (body_of o s t d) ++ rest) ≡ Packet (record { length = length d + 4; opcode = o; source = s; status = t })
+    check_of (seal (body_of o s t d) ++ rest) ≡ Ok (record { length = length d + 4; opcode = o; source = s; status = t })
 unfolding body_of head_in
 built_found o s t d rest k = sym (sealed_check (body_of o s t d) rest k).is
 
@@ -122,7 +122,7 @@ pub record Accepted (s : List ℕ) (h : Head) : Type 0 where
   pub sums : checksum_in s ≡ checksum_of (body_in s)
 
 accepted_by : (s : List ℕ) (h : Head) (a b d e : Bool) → ltb (get_or s 0 0) 4 ≡ b → ltb (length s) (get_or s 0 0 + 2) ≡ d → eqb (checksum_in s) (checksum_of (body_in s)) ≡ e →
-    pick a (Refused Cut) (pick b (Refused Length) (pick d (Refused Cut) (pick e (Packet (head_in s)) (Refused Checksum)))) ≡ Packet h → Accepted s h
+    pick a (Err Cut) (pick b (Err Length) (pick d (Err Cut) (pick e (Ok (head_in s)) (Err Checksum)))) ≡ Ok h → Accepted s h
 accepted_by s h false false false true p q r f =
     record { head = cc; least = ltb-false (get_or s 0 0) 4 p; enough = ltb-false (length s) (get_or s 0 0 + 2) q; sums = eqb-true (checksum_in s) (checksum_of (body_in s)) r }
 accepted_by s h false false false false p q r f = never (cc)
@@ -130,7 +130,7 @@ accepted_by s h false false true e p q r f = never (cc)
 accepted_by s h false true d e p q r f = never (cc)
 accepted_by s h true b d e p q r f = never (cc)
 
-pub accepted : (s : List ℕ) {h : Head} → check_of s ≡ Packet h → Accepted s h
+pub accepted : (s : List ℕ) {h : Head} → check_of s ≡ Ok h → Accepted s h
 unfolding check_of
 accepted s {h} f = accepted_by s h (eqb (length s) 0) (ltb (get_or s 0 0) 4) (ltb (length s) (get_or s 0 0 + 2)) (eqb (checksum_in s) (checksum_of (body_in s))) refl refl refl f
 
@@ -218,7 +218,7 @@ module _ {s : List ℕ} {h : Head} (bytes : Bytes s) (k : Accepted s h) where
       ap (take (h.length + 2)) accepted_layout ∙ take_at packet (drop (h.length + 2) s) (h.length + 2) long
 
 -- Two packets with the same fields are the same bytes.
-pub same_fields : (s t : List ℕ) {h : Head} → Bytes s → Bytes t → check_of s ≡ Packet h → check_of t ≡ Packet h → data_in s ≡ data_in t →
+pub same_fields : (s t : List ℕ) {h : Head} → Bytes s → Bytes t → check_of s ≡ Ok h → check_of t ≡ Ok h → data_in s ≡ data_in t →
     take (h.length + 2) s ≡ take (h.length + 2) t
 same_fields s t {h} a b p q e =
     accepted_front a (accepted s p) ∙ (ap (λ (d : List ℕ). seal (body_of h.opcode h.source h.status d)) e ∙ sym (accepted_front b (accepted t q)))
@@ -261,11 +261,11 @@ module _ (s rest : List ℕ) (least : 4 ≤ get_or s 0 0) (enough : get_or s 0 0
       )
 
 -- A first byte below 4 is enough to refuse.
-low_first : (s : List ℕ) → (length s ≡ 0 → ⊥) → get_or s 0 0 < 4 → check_of s ≡ Refused Length
+low_first : (s : List ℕ) → (length s ≡ 0 → ⊥) → get_or s 0 0 < 4 → check_of s ≡ Err Length
 unfolding check_of
 low_first s some h = simp (ne_eqb (length s) 0 some, lt-ltb (get_or s 0 0) 4 h)
 
-none_cut : (s : List ℕ) → length s ≡ 0 → check_of s ≡ Refused Cut
+none_cut : (s : List ℕ) → length s ≡ 0 → check_of s ≡ Err Cut
 unfolding check_of
 none_cut s e = simp (eq-eqb (length s) 0 e)
 
@@ -273,12 +273,12 @@ pub some_first : (s : List ℕ) → 4 ≤ get_or s 0 0 → length s ≡ 0 → �
 some_first [] h e = omega arith
 some_first (x ∷ xs) h e = omega arith
 
-pub few_cut : (s : List ℕ) → 4 ≤ get_or s 0 0 → length s < get_or s 0 0 + 2 → check_of s ≡ Refused Cut
+pub few_cut : (s : List ℕ) → 4 ≤ get_or s 0 0 → length s < get_or s 0 0 + 2 → check_of s ≡ Err Cut
 unfolding check_of
 few_cut s least h = simp (ne_eqb (length s) 0 (some_first s least), le-ltb (get_or s 0 0) 4 least, lt-ltb (length s) (get_or s 0 0 + 2) h)
 
 -- What is not too short is judged the same with any bytes behind it.
-pub check_front : (s rest : List ℕ) → (check_of s ≡ Refused Cut → ⊥) → check_of (s ++ rest) ≡ check_of s
+pub check_front : (s rest : List ℕ) → (check_of s ≡ Err Cut → ⊥) → check_of (s ++ rest) ≡ check_of s
 check_front s rest h = by (dec_le 4 (get_or s 0 0)) (dec_le (get_or s 0 0 + 2) (length s))
   where
     by : Dec (4 ≤ get_or s 0 0) → Dec (get_or s 0 0 + 2 ≤ length s) → check_of (s ++ rest) ≡ check_of s
@@ -298,14 +298,14 @@ pub record Turned (s : List ℕ) (x : Refusal) : Type 0 where
   pub cut : number_of x ≡ 3 → length s < get_or s 0 0 + 2
 
 turned_by : (s : List ℕ) (x : Refusal) (a b d e : Bool) → eqb (length s) 0 ≡ a → ltb (length s) (get_or s 0 0 + 2) ≡ d →
-    pick a (Refused Cut) (pick b (Refused Length) (pick d (Refused Cut) (pick e (Packet (head_in s)) (Refused Checksum)))) ≡ Refused x → Turned s x
+    pick a (Err Cut) (pick b (Err Length) (pick d (Err Cut) (pick e (Ok (head_in s)) (Err Checksum)))) ≡ Err x → Turned s x
 turned_by s x true b d e p q f = let z : Cut ≡ x = cc in rw (← z) (record { cause = refl; cut = λ n. let y = eqb-true (length s) 0 p in omega arith })
 turned_by s x false true d e p q f = let z : Length ≡ x = cc in rw (← z) (record { cause = refl; cut = λ n. omega arith })
 turned_by s x false false true e p q f = let z : Cut ≡ x = cc in rw (← z) (record { cause = refl; cut = λ n. ltb-true (length s) (get_or s 0 0 + 2) q })
 turned_by s x false false false true p q f = never (cc)
 turned_by s x false false false false p q f = let z : Checksum ≡ x = cc in rw (← z) (record { cause = refl; cut = λ n. omega arith })
 
-pub turned : (s : List ℕ) {x : Refusal} → check_of s ≡ Refused x → Turned s x
+pub turned : (s : List ℕ) {x : Refusal} → check_of s ≡ Err x → Turned s x
 unfolding check_of
 turned s {x} f = turned_by s x (eqb (length s) 0) (ltb (get_or s 0 0) 4) (ltb (length s) (get_or s 0 0 + 2)) (eqb (checksum_in s) (checksum_of (body_in s))) refl refl f
 

@@ -21,8 +21,8 @@ use Rattle.packet.specs.declared.Refusal.{Refusal}
 use Rattle.packet.specs.declared.Refusal.TheVariants.{Source, Status, Data, Room}
 use Rattle.packet.specs.declared.Reply.{Reply}
 use Rattle.packet.specs.declared.Reply.TheVariants.{Ack, Nak}
-use Rattle.packet.specs.declared.Built.{Built}
-use Rattle.packet.specs.declared.Built.TheVariants.{Written, Refused}
+use Rattle.std.specs.Prelude.{Result}
+use Rattle.std.specs.Prelude.{Ok, Err}
 
 -- The four stores of the header.
 pub header_over : {room : List ℕ} {n o s t x : ℕ} → 4 ≤ length room → x ≡ n + 4 → Headed room o s t n (set (set (set (set room 0 x) 1 o) 2 s) 3 t)
@@ -65,15 +65,15 @@ pub record Small (n size : ℕ) : Type 0 where
   pub is : size ≡ n + 6
 
 small_by : (n size : ℕ) (a b d : Bool) → leb n 251 ≡ d →
-    pick a (pick b (pick d (Written (n + 6)) (Refused Data)) (Refused Status)) (Refused Source) ≡ Written size → Small n size
+    pick a (pick b (pick d (Ok (n + 6)) (Err Data)) (Err Status)) (Err Source) ≡ Ok size → Small n size
 small_by n size true true true e q = record { most = leb-true n 251 e; is = cc }
 small_by n size true true false e q = never (cc)
 small_by n size true false d e q = never (cc)
 small_by n size false b d e q = never (cc)
 
-pub fields_small : {o s t n size : ℕ} {r : Built} → Fields o s t n r → r ≡ Written size → Small n size
+pub fields_small : {o s t n size : ℕ} → Fields o s t n (Ok size) → Small n size
 unfolding fields_of
-fields_small {o} {s} {t} {n} {size} f e = small_by n size (source_allowed s) (status_allowed o t) (leb n 251) refl (sym f.is ∙ e)
+fields_small {o} {s} {t} {n} {size} f = small_by n size (source_allowed s) (status_allowed o t) (leb n 251) refl (sym f.is)
 
 -- ---- `fill`
 
@@ -82,17 +82,17 @@ pub enough : (need : ℕ) (room : List ℕ) (o s t n : ℕ) → need ≤ length 
 unfolding build_of
 enough need room o s t n h = simp (le-ltb (length room) need h)
 
-pub too_little : (need : ℕ) (room : List ℕ) (o s t n : ℕ) → length room < need → build_of need room o s t n ≡ Refused Room
+pub too_little : (need : ℕ) (room : List ℕ) (o s t n : ℕ) → length room < need → build_of need room o s t n ≡ Err Room
 unfolding build_of
 too_little need room o s t n h = simp (lt-ltb (length room) need h)
 
-pub fill_room : {room : List ℕ} {o s t n : ℕ} → length room < n + 6 → Fill room o s t n (Refused Room) room
+pub fill_room : {room : List ℕ} {o s t n : ℕ} → length room < n + 6 → Fill room o s t n (Err Room) room
 unfolding written over
 fill_room {room} {o} {s} {t} {n} h = record { is = sym (too_little (n + 6) room o s t n h); room_is = refl }
 
-pub fill_refused : {room : List ℕ} {o s t n : ℕ} {r : Built} {x : Refusal} → n + 6 ≤ length room → Fields o s t n r → r ≡ Refused x → Fill room o s t n r room
+pub fill_refused : {room : List ℕ} {o s t n : ℕ} {x : Refusal} → n + 6 ≤ length room → Fields o s t n (Err x) → Fill room o s t n (Err x) room
 unfolding written over
-fill_refused {room} {o} {s} {t} {n} {r} h f e = record { is = f.is ∙ sym (enough (n + 6) room o s t n h); room_is = rw e refl }
+fill_refused {room} {o} {s} {t} {n} h f = record { is = f.is ∙ sym (enough (n + 6) room o s t n h); room_is = refl }
 
 -- The header's four bytes and the data behind them are the body.
 around : (room : List ℕ) (o s t n : ℕ) → n + 6 ≤ length room → take (n + 4) (over ((n + 4) ∷ o ∷ s ∷ t ∷ []) room) ≡ body_of o s t (take n (drop 4 room))
@@ -102,27 +102,27 @@ around room o s t n h =
     ap (λ (k : ℕ). take k ((n + 4) ∷ o ∷ s ∷ t ∷ drop 4 room)) (add_comm n 4)
     ∙ (take-append-add ((n + 4) ∷ o ∷ s ∷ t ∷ []) (drop 4 room) n ∙ ap (λ (k : ℕ). (k + 4) ∷ o ∷ s ∷ t ∷ take n (drop 4 room)) (sym l))
 
-pub fill_written : {room room₁ room₂ : List ℕ} {o s t n m size : ℕ} {r : Built} → n + 6 ≤ length room → Fields o s t n r → r ≡ Written size →
-    Headed room o s t n room₁ → m ≡ n + 4 → Sealed room₁ m room₂ → Fill room o s t n (Written size) room₂
+pub fill_written : {room room₁ room₂ : List ℕ} {o s t n m size : ℕ} → n + 6 ≤ length room → Fields o s t n (Ok size) →
+    Headed room o s t n room₁ → m ≡ n + 4 → Sealed room₁ m room₂ → Fill room o s t n (Ok size) room₂
 unfolding written
-fill_written {room} {room₁} {room₂} {o} {s} {t} {n} {m} {size} h f e d q k =
+fill_written {room} {room₁} {room₂} {o} {s} {t} {n} {m} {size} h f d q k =
     let head : List ℕ = (n + 4) ∷ o ∷ s ∷ t ∷ [] in
     let body : List ℕ = body_of o s t (take n (drop 4 room)) in
     let is_body : take m room₁ ≡ body = rw (q, d.is) (around room o s t n h) in
     record {
-      is = sym e ∙ (f.is ∙ sym (enough (n + 6) room o s t n h));
+      is = f.is ∙ sym (enough (n + 6) room o s t n h);
       room_is = k.is ∙ (rw (is_body, d.is) (over_over (seal body) head room (rw (length_seal body, length_body o s t (take n (drop 4 room))) (omega arith))));
     }
 
 -- ---- `build`
 
-pub build_room : {room d : List ℕ} {o s t : ℕ} → length room < 257 → Build room o s t d (Refused Room) room
+pub build_room : {room d : List ℕ} {o s t : ℕ} → length room < 257 → Build room o s t d (Err Room) room
 unfolding written over
 build_room {room} {d} {o} {s} {t} h = record { is = sym (too_little 257 room o s t (length d) h); room_is = refl }
 
-pub build_refused : {room d : List ℕ} {o s t : ℕ} {r : Built} {x : Refusal} → 257 ≤ length room → Fields o s t (length d) r → r ≡ Refused x → Build room o s t d r room
+pub build_refused : {room d : List ℕ} {o s t : ℕ} {x : Refusal} → 257 ≤ length room → Fields o s t (length d) (Err x) → Build room o s t d (Err x) room
 unfolding written over
-build_refused {room} {d} {o} {s} {t} h f e = record { is = f.is ∙ sym (enough 257 room o s t (length d) h); room_is = rw e refl }
+build_refused {room} {d} {o} {s} {t} h f = record { is = f.is ∙ sym (enough 257 room o s t (length d) h); room_is = refl }
 
 -- Data that was put into the room from the fifth byte on, and then sealed around, is what the packet holds; nothing else is left of it.
 pub sealed_around : (room d : List ℕ) (o s t n : ℕ) → length d + 6 ≤ length room → n ≡ length d →
@@ -131,36 +131,36 @@ sealed_around room d o s t n h e =
     let inside : take n (drop 4 (over_at 4 d room)) ≡ d = rw (drop_over_at 4 d room (omega arith)) (take_over d (drop 4 room) n e) in
     rw inside (over_over_at 4 (seal (body_of o s t d)) d room (omega arith) (rw (length_seal (body_of o s t d), length_body o s t d) (omega arith)))
 
-pub filled : (room d : List ℕ) (o s t need : ℕ) {r : Built} {size : ℕ} {room₂ : List ℕ} → length d + 6 ≤ length room → need ≤ length room →
-    fields_of o s t (length d) ≡ Written size → Fill (over_at 4 d room) o s t (length d) r room₂ →
+pub filled : (room d : List ℕ) (o s t need : ℕ) {r : Result ℕ Refusal} {size : ℕ} {room₂ : List ℕ} → length d + 6 ≤ length room → need ≤ length room →
+    fields_of o s t (length d) ≡ Ok size → Fill (over_at 4 d room) o s t (length d) r room₂ →
     (r ≡ build_of need room o s t (length d)) × (room₂ ≡ over (written r (seal (body_of o s t d))) room)
 unfolding written
 filled room d o s t need {r} {size} {room₂} h g e f =
     let long : length (over_at 4 d room) ≡ length room = length_over_at 4 d room (omega arith) in
     let says : r ≡ fields_of o s t (length d) = f.is ∙ enough (length d + 6) (over_at 4 d room) o s t (length d) (omega arith) in
-    let is-written : r ≡ Written size = says ∙ e in (
+    let is-written : r ≡ Ok size = says ∙ e in (
       says ∙ sym (enough need room o s t (length d) g),
       f.room_is ∙ rw is-written (sealed_around room d o s t (length d) h refl),
     )
 
-pub build_written : {room d part room₂ : List ℕ} {o s t size : ℕ} {r₁ r₂ : Built} → 257 ≤ length room → Fields o s t (length d) r₁ → r₁ ≡ Written size →
+pub build_written : {room d part room₂ : List ℕ} {o s t size : ℕ} {r : Result ℕ Refusal} → 257 ≤ length room → Fields o s t (length d) (Ok size) →
     Copied d (take (length room - 4) (drop 4 room)) part →
-    Fill (take 4 room ++ (part ++ drop (length room - 4) (drop 4 room))) o s t (length d) r₂ room₂ → Build room o s t d r₂ room₂
-build_written {room} {d} {part} {room₂} {o} {s} {t} {size} {r₁} {r₂} h f e k g =
-    let small = fields_small f e in
+    Fill (take 4 room ++ (part ++ drop (length room - 4) (drop 4 room))) o s t (length d) r room₂ → Build room o s t d r room₂
+build_written {room} {d} {part} {room₂} {o} {s} {t} {size} {r} h f k g =
+    let small = fields_small f in
     let long : length (take (length room - 4) (drop 4 room)) ≡ length room - 4 = simp (length-take, length-drop) (omega arith) in
     let there = part_over 4 (length room - 4) d room part (omega arith) (omega arith) (copied_over (omega arith) k) in
-    let done = filled room d o s t 257 (omega arith) h (sym f.is ∙ e) (rw there at g) in
+    let done = filled room d o s t 257 (omega arith) h (sym f.is) (rw there at g) in
     record { is = done.0; room_is = done.1 }
 
 -- ---- `answer`
 
-pub answer_room : {room : List ℕ} {s : ℕ} {y : Reply} → length room < 7 → Answer room s y (Refused Room) room
+pub answer_room : {room : List ℕ} {s : ℕ} {y : Reply} → length room < 7 → Answer room s y (Err Room) room
 unfolding written over
 answer_room {room} {s} {y} h = record { is = sym (too_little 7 room (reply_opcode y) s 0 (length (reply_data y)) h); room_is = refl }
 
 -- An ACK has no data, so the room before it does not matter.
-pub answer_ack : {room room₂ : List ℕ} {s : ℕ} {y : Reply} {r : Built} → 7 ≤ length room → y ≡ Ack → Fill room cmd_ack s 0 0 r room₂ → Answer room s y r room₂
+pub answer_ack : {room room₂ : List ℕ} {s : ℕ} {y : Reply} {r : Result ℕ Refusal} → 7 ≤ length room → y ≡ Ack → Fill room cmd_ack s 0 0 r room₂ → Answer room s y r room₂
 unfolding reply_body reply_opcode reply_data
 answer_ack {room} {room₂} {s} {y} {r} h e f =
     record {
@@ -168,38 +168,38 @@ answer_ack {room} {room₂} {s} {y} {r} h e f =
       room_is = f.room_is ∙ ap (λ (z : Reply). over (written r (seal (reply_body s z))) room) (sym e);
     }
 
-pub nak_source : {room : List ℕ} {s c : ℕ} {a : Bool} → 7 ≤ length room → AllowedSource s a → a ≡ false → Answer room s (Nak c) (Refused Source) room
+pub nak_source : {room : List ℕ} {s c : ℕ} {a : Bool} → 7 ≤ length room → AllowedSource s a → a ≡ false → Answer room s (Nak c) (Err Source) room
 unfolding written over fields_of reply_data
 nak_source {room} {s} {c} h p e =
     record { is = sym (enough 7 room (reply_opcode (Nak c)) s 0 (length (reply_data (Nak c))) h ∙ simp (sym p.is ∙ e)); room_is = refl }
 
-pub nak_written : {room room₂ : List ℕ} {s c : ℕ} {a : Bool} {r : Built} → 7 ≤ length room → AllowedSource s a → a ≡ true →
+pub nak_written : {room room₂ : List ℕ} {s c : ℕ} {a : Bool} {r : Result ℕ Refusal} → 7 ≤ length room → AllowedSource s a → a ≡ true →
     Fill (set room 4 c) cmd_nak s 0 1 r room₂ → Answer room s (Nak c) r room₂
 unfolding reply_body reply_opcode reply_data fields_of status_allowed
 nak_written {room} {room₂} {s} {c} {a} {r} h p e f =
-    let says : fields_of cmd_nak s 0 1 ≡ Written 7 = simp (sym p.is ∙ e) in
+    let says : fields_of cmd_nak s 0 1 ≡ Ok 7 = simp (sym p.is ∙ e) in
     let done = filled room (c ∷ []) cmd_nak s 0 7 (omega arith) h says (rw (set_over_at room 4 c (omega arith)) at f) in
     record { is = done.0; room_is = done.1 }
 
-pub answer_nak : {room room₂ : List ℕ} {s c : ℕ} {y : Reply} {r : Built} → y ≡ Nak c → Answer room s (Nak c) r room₂ → Answer room s y r room₂
+pub answer_nak : {room room₂ : List ℕ} {s c : ℕ} {y : Reply} {r : Result ℕ Refusal} → y ≡ Nak c → Answer room s (Nak c) r room₂ → Answer room s y r room₂
 answer_nak e k = rw e k
 
 -- With room enough a reply from an allowed source is never refused, and its length is the packet's.
 built_reply : (room : List ℕ) (s : ℕ) (y : Reply) → source_allowed s ≡ true → 7 ≤ length room →
-    build_of 7 room (reply_opcode y) s 0 (length (reply_data y)) ≡ Written (length (seal (reply_body s y)))
+    build_of 7 room (reply_opcode y) s 0 (length (reply_data y)) ≡ Ok (length (seal (reply_body s y)))
 unfolding fields_of status_allowed seal reply_body reply_opcode reply_data body_of
 built_reply room s Ack a h = enough 7 room cmd_ack s 0 0 h ∙ simp a
 built_reply room s (Nak cause) a h = enough 7 room cmd_nak s 0 1 h ∙ simp a
 
-module _ {room room' : List ℕ} {s : ℕ} {y : Reply} {r : Built} (a : source_allowed s ≡ true) (h : 7 ≤ length room) (k : Answer room s y r room') where
-  pub reply_written : {n : ℕ} → r ≡ Written n → (n ≡ length (seal (reply_body s y))) × (room' ≡ over (seal (reply_body s y)) room)
+module _ {room room' : List ℕ} {s : ℕ} {y : Reply} {r : Result ℕ Refusal} (a : source_allowed s ≡ true) (h : 7 ≤ length room) (k : Answer room s y r room') where
+  pub reply_written : {n : ℕ} → r ≡ Ok n → (n ≡ length (seal (reply_body s y))) × (room' ≡ over (seal (reply_body s y)) room)
   unfolding written
   reply_written e =
       let b = built_reply room s y a h in
       let i = k.is in
       (cc, rw e at k.room_is)
 
-  pub reply_never : {x : Refusal} → r ≡ Refused x → ⊥
+  pub reply_never : {x : Refusal} → r ≡ Err x → ⊥
   reply_never e =
       let b = built_reply room s y a h in
       let i = k.is in
@@ -207,18 +207,18 @@ module _ {room room' : List ℕ} {s : ℕ} {y : Reply} {r : Built} (a : source_a
 
 -- ---- `nak`
 
-pub nak_room : {room : List ℕ} {s : ℕ} {x : Refusal} → length room < answer_size → Naks room s x (Refused Room) room
+pub nak_room : {room : List ℕ} {s : ℕ} {x : Refusal} → length room < answer_size → Naks room s x (Err Room) room
 unfolding written over nak_of
 nak_room {room} {s} {x} h = record { is = sym (simp (lt-ltb (length room) answer_size h)); room_is = refl }
 
 module _ {room : List ℕ} {s c : ℕ} {x : Refusal} (h : answer_size ≤ length room) (k : Cause x c) where
-  pub nak_silent : c ≡ 0 → Naks room s x (Written 0) room
+  pub nak_silent : c ≡ 0 → Naks room s x (Ok 0) room
   unfolding written over nak_of nak_bytes
   nak_silent e =
       let none : eqb (cause_of x) 0 ≡ true = eq-eqb (cause_of x) 0 (sym k.is ∙ e) in
       record { is = sym (simp (le-ltb (length room) answer_size h, none)); room_is = sym (simp none) }
 
-  pub nak_said : {r : Built} {room₂ : List ℕ} → (c ≡ 0 → ⊥) → Answer room s (Nak c) r room₂ → Naks room s x r room₂
+  pub nak_said : {r : Result ℕ Refusal} {room₂ : List ℕ} → (c ≡ 0 → ⊥) → Answer room s (Nak c) r room₂ → Naks room s x r room₂
   unfolding nak_of nak_bytes reply_opcode reply_data
   nak_said {r} d a =
       let some : eqb (cause_of x) 0 ≡ false = ne_eqb (cause_of x) 0 (λ e. d (k.is ∙ e)) in
@@ -228,23 +228,23 @@ module _ {room : List ℕ} {s c : ℕ} {x : Refusal} (h : answer_size ≤ length
       }
 
 -- The same of a NAK: never refused, and its length is that of the bytes that answer, which are none where nothing answers.
-built_nak : (room : List ℕ) (s : ℕ) (x : Refusal) → source_allowed s ≡ true → answer_size ≤ length room → nak_of room s x ≡ Written (length (nak_bytes s x))
+built_nak : (room : List ℕ) (s : ℕ) (x : Refusal) → source_allowed s ≡ true → answer_size ≤ length room → nak_of room s x ≡ Ok (length (nak_bytes s x))
 unfolding nak_of nak_bytes fields_of status_allowed seal reply_body reply_opcode reply_data body_of
 built_nak room s x a h = built_by (eqb (cause_of x) 0) refl
   where
-    built_by : (b : Bool) → eqb (cause_of x) 0 ≡ b → nak_of room s x ≡ Written (length (nak_bytes s x))
+    built_by : (b : Bool) → eqb (cause_of x) 0 ≡ b → nak_of room s x ≡ Ok (length (nak_bytes s x))
     built_by true e = simp (le-ltb (length room) answer_size h, e)
     built_by false e = simp (le-ltb (length room) answer_size h, e, a)
 
-module _ {room room' : List ℕ} {s : ℕ} {x : Refusal} {r : Built} (a : source_allowed s ≡ true) (h : answer_size ≤ length room) (k : Naks room s x r room') where
-  pub nak_length : {n : ℕ} → r ≡ Written n → (n ≡ length (nak_bytes s x)) × (room' ≡ over (nak_bytes s x) room)
+module _ {room room' : List ℕ} {s : ℕ} {x : Refusal} {r : Result ℕ Refusal} (a : source_allowed s ≡ true) (h : answer_size ≤ length room) (k : Naks room s x r room') where
+  pub nak_length : {n : ℕ} → r ≡ Ok n → (n ≡ length (nak_bytes s x)) × (room' ≡ over (nak_bytes s x) room)
   unfolding written
   nak_length e =
       let b = built_nak room s x a h in
       let i = k.is in
       (cc, rw e at k.room_is)
 
-  pub nak_never : {y : Refusal} → r ≡ Refused y → ⊥
+  pub nak_never : {y : Refusal} → r ≡ Err y → ⊥
   nak_never e =
       let b = built_nak room s x a h in
       let i = k.is in

@@ -1,14 +1,11 @@
 -- §2 to §4 and §7: layout, checksum, status, the packet check, building, ACK and NAK.
-use Rattle.std.specs.Prelude.{ℕ, ◌+◌, ◌-◌, ◌*◌, ◌/◌, ◌%◌, Bool, List, [], ◌∷◌, ◌++◌, eqb, ltb, leb, length, get_or, take, drop, set}
+use Rattle.std.specs.Prelude.{ℕ, ◌+◌, ◌-◌, ◌*◌, ◌/◌, ◌%◌, Bool, List, [], ◌∷◌, ◌++◌, eqb, ltb, leb, length, get_or, take, drop, set, Result, Ok, Err}
 use Rattle.words.specs.Lists.{pick, both, either, same_bytes}
 use Rattle.packet.specs.Opcodes.{host, reader, cmd_ack, cmd_nak, decode_data}
 use Rattle.packet.specs.Sizes.{data_size}
+use Rattle.packet.specs.declared.Refusal.{Refusal}
 use Rattle.packet.specs.declared.Refusal.TheVariants.{Length, Checksum, Cut, Source, Status, Data, Room}
 use Rattle.packet.specs.declared.Head.{Head}
-use Rattle.packet.specs.declared.Checked.{Checked}
-use Rattle.packet.specs.declared.Checked.TheVariants as checked
-use Rattle.packet.specs.declared.Built.{Built}
-use Rattle.packet.specs.declared.Built.TheVariants as built
 use Rattle.packet.specs.declared.Reply.{Reply}
 use Rattle.packet.specs.declared.Reply.TheVariants.{Ack, Nak}
 
@@ -57,36 +54,36 @@ status_allowed opcode status =
     both (eqb (status / 4 % 2) 0) (both (eqb (status / 16) 0) (either (eqb (more_bit status) 0) (eqb opcode decode_data)))
 
 -- The packet check judges the front of the bytes it is lent: a first byte below 4 is 1, no bytes or too few is 3, then 2.
-unfoldable pub check_of : List ℕ → Checked
+unfoldable pub check_of : List ℕ → Result Head Refusal
 check_of s =
-    pick (eqb (length s) 0) (checked.Refused Cut)
-    (pick (ltb (get_or s 0 0) 4) (checked.Refused Length)
-    (pick (ltb (length s) (get_or s 0 0 + 2)) (checked.Refused Cut)
-    (pick (eqb (checksum_in s) (checksum_of (body_in s))) (checked.Packet (head_in s)) (checked.Refused Checksum))))
+    pick (eqb (length s) 0) (Err Cut)
+    (pick (ltb (get_or s 0 0) 4) (Err Length)
+    (pick (ltb (length s) (get_or s 0 0 + 2)) (Err Cut)
+    (pick (eqb (checksum_in s) (checksum_of (body_in s))) (Ok (head_in s)) (Err Checksum))))
 
 -- Building gives 4 for a source other than 0 or 4, 5 as above, 7 for over 251 data bytes; the opcode is free.
 unfoldable pub source_allowed : ℕ → Bool
 source_allowed source = either (eqb source reader) (eqb source host)
 
-unfoldable pub fields_of : ℕ → ℕ → ℕ → ℕ → Built
+unfoldable pub fields_of : ℕ → ℕ → ℕ → ℕ → Result ℕ Refusal
 fields_of opcode source status n =
     pick (source_allowed source)
-    (pick (status_allowed opcode status) (pick (leb n data_size) (built.Written (n + 6)) (built.Refused Data)) (built.Refused Status))
-    (built.Refused Source)
+    (pick (status_allowed opcode status) (pick (leb n data_size) (Ok (n + 6)) (Err Data)) (Err Status))
+    (Err Source)
 
 -- Before these 13, for less room than the call asks for.
-unfoldable pub build_of : ℕ → List ℕ → ℕ → ℕ → ℕ → ℕ → Built
-build_of need room opcode source status n = pick (ltb (length room) need) (built.Refused Room) (fields_of opcode source status n)
+unfoldable pub build_of : ℕ → List ℕ → ℕ → ℕ → ℕ → ℕ → Result ℕ Refusal
+build_of need room opcode source status n = pick (ltb (length room) need) (Err Room) (fields_of opcode source status n)
 
 -- What goes into the room: the packet, or nothing where it is refused.
-unfoldable pub written : Built → List ℕ → List ℕ
-written (built.Written n) packet = packet
-written (built.Refused r) packet = []
+unfoldable pub written : Result ℕ Refusal → List ℕ → List ℕ
+written (Ok n) packet = packet
+written (Err r) packet = []
 
 -- So many bytes were written; none where it was refused.
-abbrev pub size_of : Built → ℕ
-size_of (built.Written n) = n
-size_of (built.Refused r) = 0
+abbrev pub size_of : Result ℕ Refusal → ℕ
+size_of (Ok n) = n
+size_of (Err r) = 0
 
 -- CMD_ACK has no data, CMD_NAK one cause byte. All answers have status 0.
 unfoldable pub reply_data : Reply → List ℕ

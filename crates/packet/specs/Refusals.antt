@@ -1,11 +1,9 @@
 -- §6: the number of each refusal, and the NAK that answers it on the line.
-use Rattle.std.specs.Prelude.{ℕ, List, [], eqb, ltb, length}
+use Rattle.std.specs.Prelude.{ℕ, List, [], eqb, ltb, length, Result, Ok, Err}
 use Rattle.words.specs.Lists.{pick}
 use Rattle.packet.specs.Opcodes.{cmd_nak}
 use Rattle.packet.specs.Packet.{seal, fields_of, reply_body}
 use Rattle.packet.specs.Sizes.{answer_size}
-use Rattle.packet.specs.declared.Built.{Built}
-use Rattle.packet.specs.declared.Built.TheVariants as built
 use Rattle.packet.specs.declared.Reply.TheVariants.{Nak}
 use Rattle.packet.specs.declared.Refusal.{Refusal}
 use Rattle.packet.specs.declared.Refusal.TheVariants.{Length, Checksum, Cut, Source, Status, Opcode, Data, Beep, Setting, Barred, Start, Form, Room, Long}
@@ -48,7 +46,7 @@ unfoldable pub nak_bytes : ℕ → Refusal → List ℕ
 nak_bytes source refusal = pick (eqb (cause_of refusal) 0) [] (seal (reply_body source (Nak (cause_of refusal))))
 
 -- Writing them: 13 for less room than any answer asks for; nothing to write, or a NAK built as always.
-unfoldable pub nak_of : List ℕ → ℕ → Refusal → Built
+unfoldable pub nak_of : List ℕ → ℕ → Refusal → Result ℕ Refusal
 nak_of room source refusal =
-    pick (ltb (length room) answer_size) (built.Refused Room)
-    (pick (eqb (cause_of refusal) 0) (built.Written 0) (fields_of cmd_nak source 0 1))
+    pick (ltb (length room) answer_size) (Err Room)
+    (pick (eqb (cause_of refusal) 0) (Ok 0) (fields_of cmd_nak source 0 1))

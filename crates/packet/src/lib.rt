@@ -55,37 +55,37 @@ pub const SCAN_ENABLE: u8 = 0xE9;
 
 pub const SCAN_DISABLE: u8 = 0xEA;
 
-// Why a call or a packet is refused.
+// Why a call or a packet is refused, with the numbers by which it is told.
 #[derive(Clone, Copy)]
 pub enum Refusal {
     // length below 4
-    Length,
+    Length = 1,
     // checksum wrong
-    Checksum,
+    Checksum = 2,
     // cut by a gap, or too few bytes
-    Cut,
+    Cut = 3,
     // wrong source for this side
-    Source,
+    Source = 4,
     // a status bit not allowed
-    Status,
+    Status = 5,
     // opcode unknown to this side
-    Opcode,
+    Opcode = 6,
     // data length wrong for the opcode
-    Data,
+    Data = 7,
     // beep code not allowed
-    Beep,
+    Beep = 8,
     // parameter or value not allowed
-    Setting,
+    Setting = 9,
     // hub: barred, other code type, or too long
-    Barred,
+    Barred = 10,
     // sender: message too long, or one still out
-    Start,
+    Start = 11,
     // a saved set not exactly in its form, or with a value not allowed
-    Form,
+    Form = 12,
     // lent room too small
-    Room,
+    Room = 13,
     // more bytes than a call takes
-    Long,
+    Long = 15,
 }
 
 // What stands before the data. The length doesn't count the checksum.
@@ -95,20 +95,6 @@ pub struct Head {
     pub opcode: u8,
     pub source: u8,
     pub status: u8,
-}
-
-// What the packet check finds at the front of some bytes.
-#[derive(Clone, Copy)]
-pub enum Checked {
-    Packet(Head),
-    Refused(Refusal),
-}
-
-// What building did: so many bytes at the front of the room, or nothing.
-#[derive(Clone, Copy)]
-pub enum Built {
-    Written(usize),
-    Refused(Refusal),
 }
 
 // An answer on the line: CMD_ACK, or CMD_NAK with its cause.
@@ -122,22 +108,7 @@ pub enum Reply {
 pub fn number(refusal: Refusal) -> u8
     ensures { Number refusal result }
 {
-    match refusal {
-        Refusal::Length => 1,
-        Refusal::Checksum => 2,
-        Refusal::Cut => 3,
-        Refusal::Source => 4,
-        Refusal::Status => 5,
-        Refusal::Opcode => 6,
-        Refusal::Data => 7,
-        Refusal::Beep => 8,
-        Refusal::Setting => 9,
-        Refusal::Barred => 10,
-        Refusal::Start => 11,
-        Refusal::Form => 12,
-        Refusal::Room => 13,
-        Refusal::Long => 15,
-    }
+    refusal as u8
 }
 
 // The cause of the NAK that answers it; 0 where nothing goes out.
@@ -145,20 +116,10 @@ pub fn cause(refusal: Refusal) -> u8
     ensures { Cause refusal result }
 {
     match refusal {
-        Refusal::Length => 1,
-        Refusal::Checksum => 1,
-        Refusal::Cut => 1,
-        Refusal::Source => 2,
-        Refusal::Status => 2,
-        Refusal::Opcode => 2,
-        Refusal::Data => 2,
-        Refusal::Beep => 6,
-        Refusal::Setting => 6,
-        Refusal::Barred => 6,
-        Refusal::Start => 0,
-        Refusal::Form => 0,
-        Refusal::Room => 0,
-        Refusal::Long => 0,
+        Refusal::Length | Refusal::Checksum | Refusal::Cut => 1,
+        Refusal::Source | Refusal::Status | Refusal::Opcode | Refusal::Data => 2,
+        Refusal::Beep | Refusal::Setting | Refusal::Barred => 6,
+        Refusal::Start | Refusal::Form | Refusal::Room | Refusal::Long => 0,
     }
 }
 
@@ -177,30 +138,30 @@ fn sum(s: &[u8]) -> usize
 }
 
 // Judges the front of the bytes it is lent; later bytes aren't read.
-pub fn check(s: &[u8]) -> Checked
+pub fn check(s: &[u8]) -> Result<Head, Refusal>
     ensures { Check s.now result }
 {
     if s.len() == 0 {
-        return Checked::Refused(Refusal::Cut);
+        return Err(Refusal::Cut);
     }
     let n = wide(s[0]);
     if n < 4 {
-        return Checked::Refused(Refusal::Length);
+        return Err(Refusal::Length);
     }
     if s.len() < n + 2 {
-        return Checked::Refused(Refusal::Cut);
+        return Err(Refusal::Cut);
     }
     let found = wide(s[n]) * 256 + wide(s[n + 1]);
     let worked = 65536 - sum(&s[..n]);
     if found == worked {
-        return Checked::Packet(Head {
+        return Ok(Head {
             length: n,
             opcode: s[1],
             source: s[2],
             status: s[3],
         });
     }
-    Checked::Refused(Refusal::Checksum)
+    Err(Refusal::Checksum)
 }
 
 // The data of the packet at the front of these bytes: the part that starts at the fifth byte.
@@ -247,19 +208,19 @@ pub fn source_allowed(source: u8) -> bool
 }
 
 // What building says of a packet's fields.
-fn fields(opcode: u8, source: u8, status: u8, n: usize) -> Built
+fn fields(opcode: u8, source: u8, status: u8, n: usize) -> Result<usize, Refusal>
     ensures { Fields opcode source status n result }
 {
     if source_allowed(source) {
         if status_allowed(opcode, status) {
             if n <= DATA_SIZE {
-                return Built::Written(n + 6);
+                return Ok(n + 6);
             }
-            return Built::Refused(Refusal::Data);
+            return Err(Refusal::Data);
         }
-        return Built::Refused(Refusal::Status);
+        return Err(Refusal::Status);
     }
-    Built::Refused(Refusal::Source)
+    Err(Refusal::Source)
 }
 
 // The four bytes before the data.
@@ -284,55 +245,55 @@ fn checksum(room: &mut [u8], n: usize)
 }
 
 // Header and checksum around n bytes of data that already stand in the room from the fifth byte on.
-pub fn fill(room: &mut [u8], opcode: u8, source: u8, status: u8, n: usize) -> Built
+pub fn fill(room: &mut [u8], opcode: u8, source: u8, status: u8, n: usize) -> Result<usize, Refusal>
     ensures { Fill room.old opcode source status n result room.new }
 {
     if room.len() < 6 {
-        return Built::Refused(Refusal::Room);
+        return Err(Refusal::Room);
     }
     if room.len() - 6 < n {
-        return Built::Refused(Refusal::Room);
+        return Err(Refusal::Room);
     }
-    let judged = fields(opcode, source, status, n);
-    let Built::Written(size) = judged else {
-        return judged;
-    };
+    let size = fields(opcode, source, status, n)?;
     header(room, opcode, source, status, n);
     checksum(room, n + 4);
-    Built::Written(size)
+    Ok(size)
 }
 
 // A packet at the front of the room; the bytes behind it stay as they were.
-pub fn build(room: &mut [u8], opcode: u8, source: u8, status: u8, data: &[u8]) -> Built
+pub fn build(
+    room: &mut [u8],
+    opcode: u8,
+    source: u8,
+    status: u8,
+    data: &[u8],
+) -> Result<usize, Refusal>
     ensures { Build room.old opcode source status «data».now result room.new }
 {
     if room.len() < PACKET_SIZE {
-        return Built::Refused(Refusal::Room);
+        return Err(Refusal::Room);
     }
-    let judged = fields(opcode, source, status, data.len());
-    let Built::Written(_) = judged else {
-        return judged;
-    };
+    fields(opcode, source, status, data.len())?;
     words::copy(data, &mut room[4..]);
     fill(room, opcode, source, status, data.len())
 }
 
 // How many bytes were written; none where it was refused.
-pub fn size_of(built: Built) -> usize
+pub fn size_of(built: Result<usize, Refusal>) -> usize
     ensures { SizeOf built result }
 {
     match built {
-        Built::Written(size) => size,
-        Built::Refused(_) => 0,
+        Ok(size) => size,
+        Err(_) => 0,
     }
 }
 
 // An answer of either side: CMD_ACK, or CMD_NAK with its cause.
-pub fn answer(room: &mut [u8], source: u8, reply: Reply) -> Built
+pub fn answer(room: &mut [u8], source: u8, reply: Reply) -> Result<usize, Refusal>
     ensures { Answer room.old source reply result room.new }
 {
     if room.len() < ANSWER_SIZE {
-        return Built::Refused(Refusal::Room);
+        return Err(Refusal::Room);
     }
     match reply {
         Reply::Ack => fill(room, CMD_ACK, source, 0, 0),
@@ -341,20 +302,20 @@ pub fn answer(room: &mut [u8], source: u8, reply: Reply) -> Built
 }
 
 // The NAK that answers a refusal: its size, 0 where nothing answers it.
-pub fn nak(room: &mut [u8], source: u8, refusal: Refusal) -> Built
+pub fn nak(room: &mut [u8], source: u8, refusal: Refusal) -> Result<usize, Refusal>
     ensures { Naks room.old source refusal result room.new }
 {
     if room.len() < ANSWER_SIZE {
-        return Built::Refused(Refusal::Room);
+        return Err(Refusal::Room);
     }
     let cause = cause(refusal);
     if cause == 0 {
-        return Built::Written(0);
+        return Ok(0);
     }
     with_cause(room, source, cause)
 }
 
-fn with_cause(room: &mut [u8], source: u8, cause: u8) -> Built
+fn with_cause(room: &mut [u8], source: u8, cause: u8) -> Result<usize, Refusal>
     requires { answer_size ≤ length room.old }
     ensures { Answer room.old source (Reply.Nak cause) result room.new }
 {
@@ -362,7 +323,7 @@ fn with_cause(room: &mut [u8], source: u8, cause: u8) -> Built
         room[4] = cause;
         return fill(room, CMD_NAK, source, 0, 1);
     }
-    Built::Refused(Refusal::Source)
+    Err(Refusal::Source)
 }
 
 // Whether two bodies are equal apart from the resend mark; compared where they stand.
