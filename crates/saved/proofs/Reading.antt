@@ -16,7 +16,7 @@ use Rattle.packet.specs.declared.Refusal.TheVariants.{Form}
 use Rattle.table.specs.Rows.{parameter_count, rows, supported, row_allows, allowed}
 use Rattle.table.specs.Promises.{Allowed, values_of, changed_of}
 use Rattle.table.specs.declared.Table.{Table}
-use Rattle.table.specs.declared.Verdict.TheVariants.{Done, Refused}
+use Rattle.std.specs.Prelude.{Ok, Err}
 use Rattle.table.proofs.Finding.{many, place_at}
 use Rattle.saved.specs.Saved.{edition1, form_of, values_in, locks_in, standing, rows_allow, is_form, read_form}
 use Rattle.saved.specs.Promises.{least_size, Loads, Puts, Stands, ValuesIn, LocksIn, ComesNext, Passed, Exact, AllAllowed}
@@ -188,16 +188,16 @@ module _ {set : Table} {form : List ℕ} {r : Bool} (s : Stands form set) (e : E
   unfolding is_form
   judged = e.is ∙ rw (standing_form form set s, s.is) refl
 
-  pub load_exact : {t : Table} → r ≡ true → Loads t form (record { table = set; verdict = Done })
+  pub load_exact : r ≡ true → Loads form (Ok set)
   unfolding read_form changed_of
   load_exact y = record { is = rw (sym judged ∙ y) (rw s.is refl) }
 
-  pub load_other : {t : Table} → r ≡ false → Loads t form (record { table = t; verdict = Refused Form })
+  pub load_other : r ≡ false → Loads form (Err Form)
   unfolding read_form changed_of
   load_other n = record { is = rw (sym judged ∙ n) refl }
 
-pub load_short : {t : Table} {form : List ℕ} → length form < least_size → Loads t form (record { table = t; verdict = Refused Form })
+pub load_short : {form : List ℕ} → length form < least_size → Loads form (Err Form)
 unfolding read_form changed_of is_form
-load_short {t} {form} h =
+load_short {form} h =
     let l = length_form1 (standing edition1 form) in
     record { is = simp (other_length form (form_of edition1 (standing edition1 form)) (λ e. omega arith)) }

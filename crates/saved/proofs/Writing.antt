@@ -16,8 +16,7 @@ use Rattle.packet.specs.declared.Refusal.TheVariants.{Room}
 use Rattle.table.specs.Rows.{rows}
 use Rattle.table.specs.Promises.{values_of}
 use Rattle.table.specs.declared.Table.{Table}
-use Rattle.table.specs.declared.Written.{Written}
-use Rattle.table.specs.declared.Written.TheVariants.{Bytes, Refused}
+use Rattle.std.specs.Prelude.{Result, Ok, Err}
 use Rattle.table.proofs.Finding.{many}
 use Rattle.table.proofs.Answering.{two_stores}
 use Rattle.saved.specs.Saved.{edition1, pairs_of, locks_of, lock_count, form_of, set_size}
@@ -170,20 +169,20 @@ form_put {t} {room} {room₁} {room₂} {part} {part₂} {count} h front pairs f
       most = omega (arith, locks.most);
     }
 
-pub save_small : {t : Table} {room : List ℕ} → length room < set_size → Saves t room (Refused Room) room
+pub save_small : {t : Table} {room : List ℕ} → length room < set_size → Saves t room (Err Room) room
 unfolding over
 save_small {room = room} h = record { is = simp (lt-ltb (length room) set_size h); room_is = simp (lt-ltb (length room) set_size h) }
 
-pub save_whole : {t : Table} {room room' : List ℕ} {count : ℕ} → set_size ≤ length room → Puts t room count room' → Saves t room (Bytes count) room'
+pub save_whole : {t : Table} {room room' : List ℕ} {count : ℕ} → set_size ≤ length room → Puts t room count room' → Saves t room (Ok count) room'
 save_whole {room = room} h p =
-    record { is = simp (le-ltb (length room) set_size h) (ap Bytes p.is); room_is = p.room_is ∙ simp (le-ltb (length room) set_size h) }
+    record { is = simp (le-ltb (length room) set_size h) (ap Ok p.is); room_is = p.room_is ∙ simp (le-ltb (length room) set_size h) }
 
 -- A refused writing is by number 13, and leaves every byte of the room.
-refused_by : (d : Bool) (n : ℕ) (bytes room room' : List ℕ) {made : Written} {x : Refusal} → made ≡ pick d (Refused Room) (Bytes n) → room' ≡ over (pick d [] bytes) room → made ≡ Refused x →
+refused_by : (d : Bool) (n : ℕ) (bytes room room' : List ℕ) {made : Result ℕ Refusal} {x : Refusal} → made ≡ pick d (Err Room) (Ok n) → room' ≡ over (pick d [] bytes) room → made ≡ Err x →
     (x ≡ Room) × (room' ≡ room)
 refused_by true n bytes room room' e f q = (cc, f ∙ over_nil room)
 refused_by false n bytes room room' e f q = never (cc)
 
-pub save_refused : {t : Table} {room room' : List ℕ} {made : Written} {x : Refusal} → Saves t room made room' → made ≡ Refused x → (x ≡ Room) × (room' ≡ room)
+pub save_refused : {t : Table} {room room' : List ℕ} {made : Result ℕ Refusal} {x : Refusal} → Saves t room made room' → made ≡ Err x → (x ≡ Room) × (room' ≡ room)
 save_refused {t} {room} {room'} k q =
     refused_by (ltb (length room) set_size) (length (form_of edition1 (values_of t))) (form_of edition1 (values_of t)) room room' k.is k.room_is q

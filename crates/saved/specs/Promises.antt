@@ -1,23 +1,21 @@
 -- What the calls of a saved set promise: the answer, the table, and every byte of the room.
-use Rattle.std.specs.Prelude.{ℕ, ◌+◌, ◌*◌, ◌≤◌, Bool, List, [], ◌∷◌, ◌≡◌, ltb, length, drop, take, set}
+use Rattle.std.specs.Prelude.{ℕ, ◌+◌, ◌*◌, ◌≤◌, Bool, List, [], ◌∷◌, ◌≡◌, ltb, length, drop, take, set, Result, Ok, Err}
 use Rattle.words.specs.Lists.{pick, both, over, same_bytes}
+use Rattle.packet.specs.declared.Refusal.{Refusal}
 use Rattle.packet.specs.declared.Refusal.TheVariants as refusal
 use Rattle.table.specs.Rows.{parameter_count, rows}
 use Rattle.table.specs.Promises.{values_of, table_of, changed_of}
 use Rattle.table.specs.declared.Table.{Table}
-use Rattle.table.specs.declared.Changed.{Changed}
-use Rattle.table.specs.declared.Written.{Written}
-use Rattle.table.specs.declared.Written.TheVariants as written
 use Rattle.saved.specs.Saved.{edition1, pairs_of, locks_of, lock_count, form_of, set_size, values_in, locks_in, standing, rows_allow, read_form}
 
 -- Writing: 13 for room too small for the longest form; else the form, and nothing beyond it.
-pub record Saves (t : Table) (room : List ℕ) (r : Written) (room' : List ℕ) : Type 0 where
-  pub is : r ≡ pick (ltb (length room) set_size) (written.Refused refusal.Room) (written.Bytes (length (form_of edition1 (values_of t))))
+pub record Saves (t : Table) (room : List ℕ) (r : Result ℕ Refusal) (room' : List ℕ) : Type 0 where
+  pub is : r ≡ pick (ltb (length room) set_size) (Err refusal.Room) (Ok (length (form_of edition1 (values_of t))))
   pub room_is : room' ≡ over (pick (ltb (length room) set_size) [] (form_of edition1 (values_of t))) room
 
--- Reading: the set, or 12 and the table as it was.
-pub record Loads (t : Table) (form : List ℕ) (r : Changed) : Type 0 where
-  pub is : r ≡ changed_of t (read_form edition1 form)
+-- Reading: the set, or 12; the caller's table is its own, and stays.
+pub record Loads (form : List ℕ) (r : Result Table Refusal) : Type 0 where
+  pub is : r ≡ changed_of (read_form edition1 form)
 
 -- ---- the functions inside
 

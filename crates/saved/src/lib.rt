@@ -8,7 +8,7 @@ ghost use Rattle.saved.specs.Saved.{set_size};
 ghost use Rattle.saved.specs.Promises.{least_size, Saves, Loads, Puts, PutsPairs, PutsLocks, PutsLock, Stands, ValuesIn, LocksIn, ComesNext, Passed, Exact, AllAllowed};
 
 use packet::Refusal;
-use table::{Changed, PARAMETER_COUNT, SETTINGS, Table, Verdict, Written};
+use table::{PARAMETER_COUNT, SETTINGS, Table};
 
 // The edition's byte at the front of a form.
 pub const EDITION: u8 = 1;
@@ -22,36 +22,27 @@ const LEAST_SIZE: usize = LOCKS_AT + 1;
 pub const SET_SIZE: usize = LEAST_SIZE + PARAMETER_COUNT;
 
 // Writes permanent values and locks. 13 for room under SET_SIZE.
-pub fn save(table: Table, room: &mut [u8]) -> Written
+pub fn save(table: Table, room: &mut [u8]) -> Result<usize, Refusal>
     ensures { Saves table room.old result room.new }
 {
     if room.len() < SET_SIZE {
-        return Written::Refused(Refusal::Room);
+        return Err(Refusal::Room);
     }
-    Written::Bytes(put(table, room))
+    Ok(put(table, room))
 }
 
-// Reads a form: the set replaces permanent and present values and the locks. 12 for any other bytes, and the table stays.
-pub fn load(table: Table, form: &[u8]) -> Changed
-    ensures { Loads table form.now result }
+// Reads a form: the table that replaces the old one, its permanent and present values and the locks. 12 for any other bytes.
+pub fn load(form: &[u8]) -> Result<Table, Refusal>
+    ensures { Loads form.now result }
 {
     if form.len() < LEAST_SIZE {
-        return Changed {
-            table,
-            verdict: Verdict::Refused(Refusal::Form),
-        };
+        return Err(Refusal::Form);
     }
     let set = standing(form);
     if exact(set, form) {
-        return Changed {
-            table: set,
-            verdict: Verdict::Done,
-        };
+        return Ok(set);
     }
-    Changed {
-        table,
-        verdict: Verdict::Refused(Refusal::Form),
-    }
+    Err(Refusal::Form)
 }
 
 // ---- writing
