@@ -4,6 +4,7 @@ use Prim.Native.Nat.{ℕ, zero, suc, ◌+◌, ◌-◌, ◌/◌, ◌≤◌, ◌<�
 use mathlib.Core.Path.{◌≡◌, refl, sym, ap, ◌∙◌}
 use mathlib.Core.Bool.{Bool, true, false}
 use mathlib.Core.List.{List, [], ◌∷◌, ◌++◌}
+use Rattle.std.specs.Prelude.{Result, Ok}
 use native.Mathlib.Omega.{arith}
 use lib.ListN.{length, get_or, take, drop, set, length-take, length-drop, length-set}
 use borrow.Author.Tests.{eq-eqb, ne_eqb, le-leb, lt-leb, lt-ltb, le-ltb}
@@ -13,8 +14,6 @@ use Rattle.packet.specs.Opcodes.{reader, cmd_ack, cmd_nak, decode_data}
 use Rattle.packet.specs.Packet.{body_of, seal, source_allowed, fields_of, written}
 use Rattle.packet.specs.Promises.{Fill, SizeOf}
 use Rattle.packet.specs.declared.Refusal.{Refusal}
-use Rattle.packet.specs.declared.Built.{Built}
-use Rattle.packet.specs.declared.Built.TheVariants as built
 use Rattle.packet.proofs.Writing.{length_body, length_seal, enough, filled}
 use Rattle.packet.proofs.Judge.{status_piece}
 use Rattle.sender.specs.Sender.{heed_of}
@@ -121,17 +120,17 @@ two_writes (suc a) x q [] h = absurd (omega arith)
 two_writes (suc a) x q (y ∷ ys) h = ap (λ (l : List ℕ). y ∷ l) (two_writes a x q ys (omega arith))
 
 -- A piece with its type may always be written: the more bit is allowed for DECODE_DATA.
-may : (t n : ℕ) → t < 4 → n ≤ 251 → fields_of decode_data reader t n ≡ built.Written (n + 6)
+may : (t n : ℕ) → t < 4 → n ≤ 251 → fields_of decode_data reader t n ≡ Ok (n + 6)
 unfolding fields_of source_allowed
 may t n h l = simp (status_piece t h, le-leb n 251 l)
 
 -- What was held in the room from the fifth byte on has become a packet.
-pub record Packed (held : List ℕ) (t : ℕ) (room : List ℕ) (r : Built) (room₂ : List ℕ) : Type 0 where
-  pub is : r ≡ built.Written (length held + 6)
+pub record Packed (held : List ℕ) (t : ℕ) (room : List ℕ) (r : Result ℕ Refusal) (room₂ : List ℕ) : Type 0 where
+  pub is : r ≡ Ok (length held + 6)
   pub room_is : room₂ ≡ over (seal (body_of decode_data reader t held)) room
 
 -- The type goes into the fifth byte, the piece into the part from the sixth on.
-pub copy_packed : {code t n : ℕ} {piece room part room₂ : List ℕ} {r : Built} → length piece ≤ 250 → 257 ≤ length room → t < 4 → n ≡ length piece + 1 →
+pub copy_packed : {code t n : ℕ} {piece room part room₂ : List ℕ} {r : Result ℕ Refusal} → length piece ≤ 250 → 257 ≤ length room → t < 4 → n ≡ length piece + 1 →
     Copied piece (take (length (set room 4 code) - 5) (drop 5 (set room 4 code))) part →
     Fill (take 5 (set room 4 code) ++ (part ++ drop (length (set room 4 code) - 5) (drop 5 (set room 4 code)))) decode_data reader t n r room₂ →
     Packed (code ∷ piece) t room r room₂
@@ -148,7 +147,7 @@ copy_packed {code} {t} {n} {piece} {room} {part} {room₂} {r} h l k m copied fi
     let is-written = done.0 ∙ (enough 257 room decode_data reader t (length held) l ∙ says) in
     record { is = is-written; room_is = done.1 ∙ rw is-written refl }
 
-pub copy_filled : {held room room₂ : List ℕ} {t size : ℕ} {r : Built} → Packed held t room r room₂ → SizeOf r size → Fills (body_of decode_data reader t held) room size room₂
+pub copy_filled : {held room room₂ : List ℕ} {t size : ℕ} {r : Result ℕ Refusal} → Packed held t room r room₂ → SizeOf r size → Fills (body_of decode_data reader t held) room size room₂
 copy_filled {held} {t = t} packed k =
     let long : length (seal (body_of decode_data reader t held)) ≡ length held + 6 =
     length_seal (body_of decode_data reader t held) ∙ rw (length_body decode_data reader t held) (omega arith) in

@@ -15,7 +15,7 @@ use Rattle.words.proofs.Lists.{bytes_cons, bytes_take, bytes_drop, both_false, o
 use Rattle.words.proofs.Machine.{each_so}
 use Rattle.packet.specs.Opcodes.{reader, decode_data}
 use Rattle.packet.specs.Packet.{body_of, seal, head_in, check_of}
-use Rattle.packet.specs.declared.Checked.TheVariants.{Packet}
+use Rattle.std.specs.Prelude.{Ok}
 use Rattle.packet.proofs.Theorems.{Body, body_of_lem, sealed_check}
 use Rattle.packet.proofs.Writing.{length_seal}
 use Rattle.sender.specs.Pieces.{next_size, pieces_of, bodies_of, packets_of, block, Uncut}
@@ -251,7 +251,7 @@ unfolding packets_of
 packets_bodies code m k b = cut_bodies code k b (pieces_are_cut m)
 
 -- So each is found by the check once it is sealed, whatever follows it on the line.
-pub packets_found : (code : ℕ) (m rest : List ℕ) → code < 256 → Bytes m → Each (λ (p : List ℕ). check_of (seal p ++ rest) ≡ Packet (head_in p)) (packets_of code m)
+pub packets_found : (code : ℕ) (m rest : List ℕ) → code < 256 → Bytes m → Each (λ (p : List ℕ). check_of (seal p ++ rest) ≡ Ok (head_in p)) (packets_of code m)
 packets_found code m rest k b = each_so (λ p h. sym (sealed_check p rest h).is) (packets_bodies code m k b)
 
 -- None is longer than a packet holds: with its checksum it has at most the 257 bytes of the room.
