@@ -8,6 +8,7 @@ use mathlib.Core.List.{List, [], ◌∷◌}
 use lib.Dec.{eqb, ltb}
 use lib.ListN.{length, get_or}
 use borrow.Author.Tests.{eqb-true, ltb-true}
+use Rattle.std.proofs.Common.{Some, Err}
 use Rattle.words.specs.Lists.{both, either}
 use Rattle.words.proofs.Lists.{never, both_left, both_right}
 use Rattle.packet.specs.Packet.{is_answer}
@@ -17,29 +18,26 @@ use Rattle.commands.specs.Beeps.{beep_rows, beep_limit, row_of}
 use Rattle.commands.specs.Commands.{DeviceState, named_by, Acted, denied, acted, judged}
 use Rattle.commands.specs.Promises.{commanded_of}
 use Rattle.commands.specs.declared.Command.{Command}
-use Rattle.commands.specs.declared.Named.TheVariants.{Known}
-use Rattle.commands.specs.declared.Device.{Device}
-use Rattle.commands.specs.declared.Verdict.TheVariants as verdict
 use Rattle.commands.proofs.Outcomes.{Does, keeps, resets, sets, judged_does}
 
--- ---- the verdict
+-- ---- what is told
 
--- What the verdict denies was denied.
-pub told_denied : (d : Device) (act : Acted) {x : Refusal} → (commanded_of d act).verdict ≡ verdict.Denied x → act ≡ denied x
+-- What is told as denied was denied.
+pub told_denied : (act : Acted) {x : Refusal} → commanded_of act ≡ Err x → act ≡ denied x
 unfolding commanded_of
-told_denied d (denied y) e = cc
-told_denied d (acted next rows) e = never (cc)
+told_denied (denied y) e = cc
+told_denied (acted next rows) e = never (cc)
 
 -- ---- opcodes
 
 -- A command's opcode is no answer's.
-unknown_answer : (o : ℕ) {k : Command} (a n : Bool) → eqb o 0xD0 ≡ a → eqb o 0xD1 ≡ n → named_by o ≡ Known k → either a n ≡ false
+unknown_answer : (o : ℕ) {k : Command} (a n : Bool) → eqb o 0xD0 ≡ a → eqb o 0xD1 ≡ n → named_by o ≡ Some k → either a n ≡ false
 unfolding named_by
 unknown_answer o true n e f k = let z = rw (eqb-true o 0xD0 e) at k in never (cc)
 unknown_answer o false true e f k = let z = rw (eqb-true o 0xD1 f) at k in never (cc)
 unknown_answer o false false e f k = refl
 
-pub no_answer : (o : ℕ) {k : Command} → named_by o ≡ Known k → is_answer o ≡ false
+pub no_answer : (o : ℕ) {k : Command} → named_by o ≡ Some k → is_answer o ≡ false
 unfolding is_answer
 no_answer o k = unknown_answer o (eqb o 0xD0) (eqb o 0xD1) refl refl k
 

@@ -3,18 +3,18 @@ use Prim.Native.Nat.{ℕ}
 use mathlib.Core.Path.{◌≡◌, sym, ◌∙◌}
 use mathlib.Core.Bool.{Bool}
 use mathlib.Core.List.{List}
+use Rattle.std.proofs.Common.{Option, Result}
+use Rattle.packet.specs.declared.Refusal.{Refusal}
 use Rattle.commands.specs.Commands.{Acted}
 use Rattle.commands.specs.Promises.{Names, LengthAllowed, Commands}
 use Rattle.commands.specs.declared.Command.{Command}
-use Rattle.commands.specs.declared.Named.{Named}
-use Rattle.commands.specs.declared.Device.{Device}
-use Rattle.commands.specs.declared.Commanded.{Commanded}
+use Rattle.commands.specs.declared.Acted.{Acted as ActedOn}
 
-pub named_by_unique : {opcode : ℕ} {r r' : Named} → Names opcode r → Names opcode r' → r ≡ r'
+pub named_by_unique : {opcode : ℕ} {r r' : Option Command} → Names opcode r → Names opcode r' → r ≡ r'
 named_by_unique p q = p.is ∙ sym q.is
 
 pub length_allowed_unique : {command : Command} {carried : List ℕ} {r r' : Bool} → LengthAllowed command carried r → LengthAllowed command carried r' → r ≡ r'
 length_allowed_unique p q = p.is ∙ sym q.is
 
-pub act_unique : {d : Device} {act : Acted} {r r' : Commanded} → Commands d act r → Commands d act r' → r ≡ r'
+pub act_unique : {act : Acted} {r r' : Result ActedOn Refusal} → Commands act r → Commands act r' → r ≡ r'
 act_unique p q = p.is ∙ sym q.is

@@ -1,5 +1,5 @@
 -- §11: the reader's commands by name, the data that each takes, and what it does.
-use Rattle.std.specs.Prelude.{ℕ, ◌%◌, Bool, true, false, List, [], ◌∷◌, eqb, length, get_or, drop}
+use Rattle.std.specs.Prelude.{ℕ, ◌%◌, Bool, true, false, List, [], ◌∷◌, Option, Some, None, eqb, length, get_or, drop}
 use Rattle.words.specs.Lists.{pick, both, either}
 use Rattle.packet.specs.Opcodes as opcode
 use Rattle.packet.specs.Packet.{permanent_bit}
@@ -9,8 +9,6 @@ use Rattle.table.specs.Table.{Values, read_pairs, send_length_allowed, request_l
 use Rattle.commands.specs.Beeps.{beep_allowed, send_beep_allowed, row_of}
 use Rattle.commands.specs.declared.Command.{Command}
 use Rattle.commands.specs.declared.Command.TheVariants.{ParamSend, ParamRequest, ParamDefaults, StartSession, StopSession, Beep, LedOn, LedOff, ScanEnable, ScanDisable, AimOn, AimOff}
-use Rattle.commands.specs.declared.Named.{Named}
-use Rattle.commands.specs.declared.Named.TheVariants.{Unknown, Known}
 use Rattle.commands.specs.declared.Switches.{Switches}
 
 -- The parameter values, and what the commands switch.
@@ -24,19 +22,19 @@ fresh v = record { values = v; switches = record { scanning = true; session = fa
 
 -- ---- opcodes and data lengths
 
-unfoldable pub named_by : ℕ → Named
+unfoldable pub named_by : ℕ → Option Command
 named_by o =
-    pick (eqb o opcode.param_send) (Known ParamSend)
-    (pick (eqb o opcode.param_request) (Known ParamRequest)
-    (pick (eqb o opcode.param_defaults) (Known ParamDefaults)
-    (pick (eqb o opcode.start_session) (Known StartSession)
-    (pick (eqb o opcode.stop_session) (Known StopSession)
-    (pick (eqb o opcode.beep) (Known Beep)
-    (pick (eqb o opcode.led_on) (Known LedOn)
-    (pick (eqb o opcode.led_off) (Known LedOff)
-    (pick (eqb o opcode.scan_enable) (Known ScanEnable)
-    (pick (eqb o opcode.scan_disable) (Known ScanDisable)
-    (pick (eqb o opcode.aim_on) (Known AimOn) (pick (eqb o opcode.aim_off) (Known AimOff) Unknown)))))))))))
+    pick (eqb o opcode.param_send) (Some ParamSend)
+    (pick (eqb o opcode.param_request) (Some ParamRequest)
+    (pick (eqb o opcode.param_defaults) (Some ParamDefaults)
+    (pick (eqb o opcode.start_session) (Some StartSession)
+    (pick (eqb o opcode.stop_session) (Some StopSession)
+    (pick (eqb o opcode.beep) (Some Beep)
+    (pick (eqb o opcode.led_on) (Some LedOn)
+    (pick (eqb o opcode.led_off) (Some LedOff)
+    (pick (eqb o opcode.scan_enable) (Some ScanEnable)
+    (pick (eqb o opcode.scan_disable) (Some ScanDisable)
+    (pick (eqb o opcode.aim_on) (Some AimOn) (pick (eqb o opcode.aim_off) (Some AimOff) None)))))))))))
 
 unfoldable pub length_allowed : Command → List ℕ → Bool
 length_allowed ParamSend d = send_length_allowed d

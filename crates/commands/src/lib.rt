@@ -2,49 +2,68 @@
 #![tactic(auto)]
 
 ghost use Rattle.std.specs.Prelude.{◌%◌, ◌≡◌, length};
-ghost use Rattle.commands.specs.Commands.{denied, judged, effect, send_command, beep_command};
-ghost use Rattle.commands.specs.Promises.{Names, LengthAllowed, Commands, Fit, SendBeepAllowed, Reports, StartsSession, StopsSession, Scans, Aims, Lights, Acts, device_of};
+ghost use Rattle.commands.specs.Commands.{judged, effect, send_command, beep_command};
+ghost use Rattle.commands.specs.Promises.{Names, LengthAllowed, Commands, Fit, SendBeepAllowed, Reports, StartsSession, Scans, Lights, device_of};
 
 use packet::Refusal;
 use table::Table;
 
-// §13: duration, pitch and number of beeps of each code; specs/Beeps.antt says what the numbers mean.
-const BEEPS: [[u8; 3]; 30] = [
-    [0, 0, 1],
-    [0, 0, 2],
-    [0, 0, 3],
-    [0, 0, 4],
-    [0, 0, 5],
-    [0, 1, 1],
-    [0, 1, 2],
-    [0, 1, 3],
-    [0, 1, 4],
-    [0, 1, 5],
-    [1, 0, 1],
-    [1, 0, 2],
-    [1, 0, 3],
-    [1, 0, 4],
-    [1, 0, 5],
-    [1, 1, 1],
-    [1, 1, 2],
-    [1, 1, 3],
-    [1, 1, 4],
-    [1, 1, 5],
-    [2, 2, 4],
-    [3, 2, 4],
-    [4, 3, 2],
-    [5, 4, 2],
-    [6, 5, 3],
-    [7, 6, 3],
-    [1, 7, 4],
-    [0, 8, 13],
-    [8, 0, 1],
-    [9, 9, 1],
+// A row of §13 as it is reported: specs/Beeps.antt says what the numbers mean.
+#[derive(Clone, Copy)]
+pub struct Beep {
+    pub duration: u8,
+    pub pitch: u8,
+    pub count: u8,
+}
+
+// A row on one line, as §13 has it.
+macro_rules! beep {
+    ($duration:literal, $pitch:literal, $count:literal) => {
+        Beep {
+            duration: $duration,
+            pitch: $pitch,
+            count: $count,
+        }
+    };
+}
+
+// §13: duration, pitch and number of beeps of each code.
+const BEEPS: [Beep; 30] = [
+    beep!(0, 0, 1),
+    beep!(0, 0, 2),
+    beep!(0, 0, 3),
+    beep!(0, 0, 4),
+    beep!(0, 0, 5),
+    beep!(0, 1, 1),
+    beep!(0, 1, 2),
+    beep!(0, 1, 3),
+    beep!(0, 1, 4),
+    beep!(0, 1, 5),
+    beep!(1, 0, 1),
+    beep!(1, 0, 2),
+    beep!(1, 0, 3),
+    beep!(1, 0, 4),
+    beep!(1, 0, 5),
+    beep!(1, 1, 1),
+    beep!(1, 1, 2),
+    beep!(1, 1, 3),
+    beep!(1, 1, 4),
+    beep!(1, 1, 5),
+    beep!(2, 2, 4),
+    beep!(3, 2, 4),
+    beep!(4, 3, 2),
+    beep!(5, 4, 2),
+    beep!(6, 5, 3),
+    beep!(7, 6, 3),
+    beep!(1, 7, 4),
+    beep!(0, 8, 13),
+    beep!(8, 0, 1),
+    beep!(9, 9, 1),
 ];
 // The highest code that is allowed.
 const BEEP_LIMIT: u8 = 0x1D;
 
-// What the commands switch on and off.
+// What the commands switch on and off. stays: a control value keeps every byte as it was, so the switches are four flags in this order.
 #[derive(Clone, Copy)]
 pub struct Switches {
     pub scanning: bool,
@@ -76,51 +95,31 @@ pub enum Command {
     AimOff,
 }
 
-// What an opcode names.
+// What a command that was acted on left: the device afterwards, and the row of beeps that is reported, if one is.
 #[derive(Clone, Copy)]
-pub enum Named {
-    Unknown,
-    Known(Command),
-}
-
-// The row of beeps that is reported, if one is.
-#[derive(Clone, Copy)]
-pub enum Beep {
-    Silent,
-    Row { duration: u8, pitch: u8, count: u8 },
-}
-
-// Whether a command was acted on.
-#[derive(Clone, Copy)]
-pub enum Verdict {
-    Denied(Refusal),
-    Done(Beep),
-}
-
-#[derive(Clone, Copy)]
-pub struct Commanded {
+pub struct Acted {
     pub device: Device,
-    pub verdict: Verdict,
+    pub beep: Option<Beep>,
 }
 
 // The command that an opcode names, if it is one.
-pub fn named_by(opcode: u8) -> Named
+pub fn named_by(opcode: u8) -> Option<Command>
     ensures { Names opcode result }
 {
     match opcode {
-        packet::PARAM_SEND => Named::Known(Command::ParamSend),
-        packet::PARAM_REQUEST => Named::Known(Command::ParamRequest),
-        packet::PARAM_DEFAULTS => Named::Known(Command::ParamDefaults),
-        packet::START_SESSION => Named::Known(Command::StartSession),
-        packet::STOP_SESSION => Named::Known(Command::StopSession),
-        packet::BEEP => Named::Known(Command::Beep),
-        packet::LED_ON => Named::Known(Command::LedOn),
-        packet::LED_OFF => Named::Known(Command::LedOff),
-        packet::SCAN_ENABLE => Named::Known(Command::ScanEnable),
-        packet::SCAN_DISABLE => Named::Known(Command::ScanDisable),
-        packet::AIM_ON => Named::Known(Command::AimOn),
-        packet::AIM_OFF => Named::Known(Command::AimOff),
-        _ => Named::Unknown,
+        packet::PARAM_SEND => Some(Command::ParamSend),
+        packet::PARAM_REQUEST => Some(Command::ParamRequest),
+        packet::PARAM_DEFAULTS => Some(Command::ParamDefaults),
+        packet::START_SESSION => Some(Command::StartSession),
+        packet::STOP_SESSION => Some(Command::StopSession),
+        packet::BEEP => Some(Command::Beep),
+        packet::LED_ON => Some(Command::LedOn),
+        packet::LED_OFF => Some(Command::LedOff),
+        packet::SCAN_ENABLE => Some(Command::ScanEnable),
+        packet::SCAN_DISABLE => Some(Command::ScanDisable),
+        packet::AIM_ON => Some(Command::AimOn),
+        packet::AIM_OFF => Some(Command::AimOff),
+        _ => None,
     }
 }
 
@@ -131,151 +130,126 @@ pub fn length_allowed(command: Command, data: &[u8]) -> bool
     match command {
         Command::ParamSend => table::send_length_allowed(data),
         Command::ParamRequest => table::request_length_allowed(data),
-        Command::ParamDefaults => data.len() == 0,
-        Command::StartSession => data.len() == 0,
-        Command::StopSession => data.len() == 0,
-        Command::Beep => data.len() == 1,
-        Command::LedOn => data.len() == 1,
-        Command::LedOff => data.len() == 1,
-        Command::ScanEnable => data.len() == 0,
-        Command::ScanDisable => data.len() == 0,
-        Command::AimOn => data.len() == 0,
-        Command::AimOff => data.len() == 0,
+        Command::Beep | Command::LedOn | Command::LedOff => data.len() == 1,
+        Command::ParamDefaults
+        | Command::StartSession
+        | Command::StopSession
+        | Command::ScanEnable
+        | Command::ScanDisable
+        | Command::AimOn
+        | Command::AimOff => data.len() == 0,
     }
 }
 
-// What a command does to the device, or why it is denied: 7, then 8 and 9. What is denied changes nothing.
-pub fn act(device: Device, command: Command, status: u8, data: &[u8]) -> Commanded
-    ensures { Commands device (judged (device_of device) command status «data».now) result }
+// What a command does to the device, or why it is denied: 7, then 8 and 9. It goes by value, so what is denied changes nothing.
+pub fn act(device: Device, command: Command, status: u8, data: &[u8]) -> Result<Acted, Refusal>
+    ensures { Commands (judged (device_of device) command status «data».now) result }
 {
-    if length_allowed(command, data) {
-        return act_on(device, command, status, data);
+    if !length_allowed(command, data) {
+        return Err(Refusal::Data);
     }
-    denied(device, Refusal::Data)
+    act_on(device, command, status, data)
 }
 
-fn act_on(device: Device, command: Command, status: u8, data: &[u8]) -> Commanded
+fn act_on(device: Device, command: Command, status: u8, data: &[u8]) -> Result<Acted, Refusal>
     requires { Fit command «data».now }
-    ensures { Commands device (effect (device_of device) command status «data».now) result }
+    ensures { Commands (effect (device_of device) command status «data».now) result }
 {
-    let table = device.table;
     let switches = device.switches;
-    match command {
-        Command::ParamSend => send(device, status, data),
-        Command::ParamRequest => done(table, switches, Beep::Silent),
-        Command::ParamDefaults => done(table::set_defaults(table), switches, Beep::Silent),
-        Command::StartSession => done(table, start_session(switches), Beep::Silent),
-        Command::StopSession => done(table, stop_session(switches), Beep::Silent),
-        Command::Beep => beep_command(device, data[0]),
-        Command::LedOn => done(table, light(switches, true, data[0]), Beep::Silent),
-        Command::LedOff => done(table, light(switches, false, data[0]), Beep::Silent),
-        Command::ScanEnable => done(table, scan(switches, true), Beep::Silent),
-        Command::ScanDisable => done(table, scan(switches, false), Beep::Silent),
-        Command::AimOn => done(table, aim(switches, true), Beep::Silent),
-        Command::AimOff => done(table, aim(switches, false), Beep::Silent),
-    }
+    // What changes the table returns by itself; the others change the switches, or nothing.
+    let switches = match command {
+        Command::ParamSend => return send(device, status, data),
+        Command::Beep => return beep_command(device, data[0]),
+        Command::ParamDefaults => {
+            let table = table::set_defaults(device.table);
+            return Ok(Acted {
+                device: Device { table, switches },
+                beep: None,
+            });
+        }
+        Command::ParamRequest => switches,
+        Command::StartSession => start_session(switches),
+        Command::StopSession => Switches {
+            session: false,
+            ..switches
+        },
+        Command::LedOn => light(switches, true, data[0]),
+        Command::LedOff => light(switches, false, data[0]),
+        Command::ScanEnable => scan(switches, true),
+        Command::ScanDisable => scan(switches, false),
+        Command::AimOn => Switches {
+            aim: true,
+            ..switches
+        },
+        Command::AimOff => Switches {
+            aim: false,
+            ..switches
+        },
+    };
+    Ok(Acted {
+        device: Device { switches, ..device },
+        beep: None,
+    })
 }
 
 // PARAM_SEND: a beep byte, then pairs, all or nothing.
-fn send(device: Device, status: u8, data: &[u8]) -> Commanded
+fn send(device: Device, status: u8, data: &[u8]) -> Result<Acted, Refusal>
     requires { length «data».now % 2 ≡ 1 }
-    ensures { Commands device (send_command (device_of device) status «data».now) result }
+    ensures { Commands (send_command (device_of device) status «data».now) result }
 {
     let code = data[0];
-    if send_beep_allowed(code) {
-        let table = device.table;
-        let changed = table::set(table, &data[1..], status / 8 % 2 == 1);
-        let verdict = changed.verdict;
-        let next = changed.table;
-        let switches = device.switches;
-        return match verdict {
-            table::Verdict::Done => done(next, switches, report(code)),
-            table::Verdict::Refused(refusal) => denied(device, refusal),
-        };
+    if !send_beep_allowed(code) {
+        return Err(Refusal::Beep);
     }
-    denied(device, Refusal::Beep)
+    let table = table::set(device.table, &data[1..], status / 8 % 2 == 1)?;
+    Ok(Acted {
+        device: Device { table, ..device },
+        beep: report(code),
+    })
 }
 
 // BEEP reports the row of its code.
-fn beep_command(device: Device, code: u8) -> Commanded
-    ensures { Commands device (beep_command (device_of device) code) result }
+fn beep_command(device: Device, code: u8) -> Result<Acted, Refusal>
+    ensures { Commands (beep_command (device_of device) code) result }
 {
-    if code <= BEEP_LIMIT {
-        let table = device.table;
-        let switches = device.switches;
-        return done(table, switches, report(code));
-    }
-    denied(device, Refusal::Beep)
+    let beep = report(code).ok_or(Refusal::Beep)?;
+    Ok(Acted {
+        device,
+        beep: Some(beep),
+    })
 }
 
 // START_SESSION while scanning is disabled starts none; a session that is on stays on.
 fn start_session(switches: Switches) -> Switches
     ensures { StartsSession switches result }
 {
-    let mut next = switches;
-    if switches.scanning {
-        next.session = true;
-        return next;
+    Switches {
+        session: switches.session || switches.scanning,
+        ..switches
     }
-    next
-}
-
-fn stop_session(switches: Switches) -> Switches
-    ensures { StopsSession switches result }
-{
-    let mut next = switches;
-    next.session = false;
-    next
 }
 
 // SCAN_DISABLE ends a session.
 fn scan(switches: Switches, on: bool) -> Switches
     ensures { Scans switches on result }
 {
-    let mut next = switches;
-    next.scanning = on;
-    if on {
-        return next;
+    Switches {
+        scanning: on,
+        session: on && switches.session,
+        ..switches
     }
-    next.session = false;
-    next
-}
-
-fn aim(switches: Switches, on: bool) -> Switches
-    ensures { Aims switches on result }
-{
-    let mut next = switches;
-    next.aim = on;
-    next
 }
 
 // LED looks at bit 0 only.
 fn light(switches: Switches, on: bool, bits: u8) -> Switches
     ensures { Lights switches on bits result }
 {
-    let mut next = switches;
-    if bits % 2 == 1 {
-        next.led = on;
-        return next;
+    if bits % 2 == 0 {
+        return switches;
     }
-    next
-}
-
-fn done(table: Table, switches: Switches, beep: Beep) -> Commanded
-    ensures { Acts table switches beep result }
-{
-    Commanded {
-        device: Device { table, switches },
-        verdict: Verdict::Done(beep),
-    }
-}
-
-fn denied(device: Device, refusal: Refusal) -> Commanded
-    ensures { Commands device (denied refusal) result }
-{
-    Commanded {
-        device,
-        verdict: Verdict::Denied(refusal),
+    Switches {
+        led: on,
+        ..switches
     }
 }
 
@@ -283,24 +257,15 @@ fn denied(device: Device, refusal: Refusal) -> Commanded
 fn send_beep_allowed(code: u8) -> bool
     ensures { SendBeepAllowed code result }
 {
-    if code == 0xFF {
-        return true;
-    }
-    code <= BEEP_LIMIT
+    code == 0xFF || code <= BEEP_LIMIT
 }
 
 // The row of an allowed code.
-fn report(code: u8) -> Beep
+fn report(code: u8) -> Option<Beep>
     ensures { Reports code result }
 {
-    if code <= BEEP_LIMIT {
-        let place = words::wide(code);
-        let row = BEEPS[place];
-        return Beep::Row {
-            duration: row[0],
-            pitch: row[1],
-            count: row[2],
-        };
+    if code > BEEP_LIMIT {
+        return None;
     }
-    Beep::Silent
+    Some(BEEPS[usize::from(code)])
 }

@@ -1,9 +1,9 @@
 -- `commands::beep_command` meets its contract: an allowed code is reported, another denied. Assumes nothing.
-use Rattle.commands.proofs.Commanding.{beep_row, beep_denied}
+use Rattle.commands.proofs.Commanding.{handed_on, sounds, unsounded}
 use Rattle.commands.proofs.beep_command.Goals as goal
 
-pub returns-then-code-le-BEEP_LIMIT : goal.returns-then-code-le-BEEP_LIMIT
-returns-then-code-le-BEEP_LIMIT c = beep_row c.if-code-le-BEEP_LIMIT.true c.report.ensures c.done.ensures
+pub returns-in_err-beep : goal.returns-in_err-beep
+returns-in_err-beep c = handed_on c.from_residual.ensures.1 (unsounded c.args.device c.report.ensures c.in_err-beep.ensures.ok_part c.in_err-beep.ensures.value)
 
 pub returns : goal.returns
-returns c = beep_denied c.if-code-le-BEEP_LIMIT.false c.denied.ensures
+returns c = sounds c.args.device c.report.ensures c.in_ok-beep.ensures.ok_part

@@ -1,9 +1,12 @@
 -- `commands::scan` meets its contract: a session goes on, or ends. Assumes nothing.
-use Rattle.commands.proofs.Commanding.{scan_on, scan_off}
+use mathlib.Core.Path.{refl}
+use Rattle.commands.specs.Commands.{scanning_to}
 use Rattle.commands.proofs.scan.Goals as goal
 
 pub returns-then-on : goal.returns-then-on
-returns-then-on c = scan_on c.if-on.true
+unfolding scanning_to
+returns-then-on c = record { is = rw c.if-on.true refl }
 
-pub returns : goal.returns
-returns c = scan_off c.if-on.false
+pub returns-else-on : goal.returns-else-on
+unfolding scanning_to
+returns-else-on c = record { is = rw c.if-on.false refl }

@@ -1,9 +1,12 @@
 -- `commands::send_beep_allowed` meets its contract: FFh, then the codes that are allowed. Assumes nothing.
-use Rattle.commands.proofs.Commanding.{send_beep_none, send_beep_last}
+use borrow.Author.Tests.{eq-eqb, ne_eqb}
+use Rattle.commands.specs.Beeps.{beep_allowed, send_beep_allowed}
 use Rattle.commands.proofs.send_beep_allowed.Goals as goal
 
 pub returns-then-code-eq255 : goal.returns-then-code-eq255
-returns-then-code-eq255 c = send_beep_none c.if-code-eq255.true
+unfolding send_beep_allowed
+returns-then-code-eq255 c = record { is = simp (eq-eqb c.args.code 255 c.if-code-eq255.true) }
 
-pub returns : goal.returns
-returns c = send_beep_last c.if-code-eq255.false
+pub returns-else-code-eq255 : goal.returns-else-code-eq255
+unfolding send_beep_allowed beep_allowed
+returns-else-code-eq255 c = record { is = simp (ne_eqb c.args.code 255 c.if-code-eq255.false) }

@@ -1,9 +1,11 @@
 -- `commands::start_session` meets its contract: scanning is enabled, or it is not. Assumes nothing.
-use Rattle.commands.proofs.Commanding.{session_started_lem, session_left}
+use Rattle.commands.specs.Commands.{session_started}
 use Rattle.commands.proofs.start_session.Goals as goal
 
 pub returns-then-switches : goal.returns-then-switches
-returns-then-switches c = session_started_lem c.if-switches.true
+unfolding session_started
+returns-then-switches c = record { is = simp c.if-switches.true }
 
-pub returns : goal.returns
-returns c = session_left c.if-switches.false
+pub returns-else-switches : goal.returns-else-switches
+unfolding session_started
+returns-else-switches c = record { is = simp c.if-switches.false }
