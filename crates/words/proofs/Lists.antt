@@ -1,16 +1,18 @@
--- Laws of the list vocabulary: rooms, parts put back, and the comparison of two lists; and what the loops of `words` keep.
+-- Laws of the list vocabulary: rooms, parts put back, and the comparison of two lists.
 -- Assumes nothing.
-use Prim.Native.Nat.{ℕ, zero, suc, ◌+◌, ◌-◌, ◌<◌, ◌≤◌}
+use Prim.Native.Nat.{ℕ, zero, suc, min, ◌+◌, ◌-◌, ◌<◌, ◌≤◌}
 use mathlib.Core.Path.{◌≡◌, refl, sym, ap, ◌∙◌}
-use mathlib.Core.Bool.{Bool, true, false}
+use mathlib.Core.Bool.{Bool, true, false, ◌&&◌}
 use mathlib.Core.List.{List, [], ◌∷◌, ◌++◌, append_assoc}
 use native.Mathlib.Numerals.{add-one}
 use native.Mathlib.Omega.{arith}
+use native.Mathlib.Decide.{dec_le}
 use lib.Dec.{eqb}
 use lib.ListN.{length, get_or, take, drop, set, take-append-drop, length-append, length-take, length-drop}
 use lib.Seq.{set_split, take_at, drop_at, take-append-add, drop-append-add, take-length, length-take-le, drop-drop, take_all, drop-cons, take-append-le, drop-append-le}
+use lib.Pointwise.{pointwise}
 use borrow.Author.Tests.{eq-eqb, ne_eqb, eqb-true}
-use Rattle.words.specs.Lists.{both, Bytes, over, over_at, Copied, same_bytes, either}
+use Rattle.words.specs.Lists.{both, Bytes, over, over_at, Copied, same_bytes, Compared, either}
 
 -- ---- contradictions and tests
 
@@ -174,6 +176,17 @@ behind a p q room room₁ part e h k m =
 pub copied_over : {from room room' : List ℕ} → length from ≤ length room → Copied from room room' → room' ≡ over from room
 copied_over {from} {room} h k = k.is ∙ ap (λ (p : List ℕ). over p room) (take_all (length room) from h)
 
+-- The front of the room, of as many bytes as both have, copied over, and the rest put back.
+pub copied_front : {from room front : List ℕ} {n : ℕ} → n ≡ min (length from) (length room) → front ≡ take n from → Copied from room (front ++ drop n room)
+unfolding over
+copied_front {from} {room} {n = n} e f =
+    let long : length (take n from) ≡ n = length-take-le n from (omega arith) in
+    record { is = rw (by (dec_le (length room) (length from)), long, f) refl }
+  where
+    by : Dec (length room ≤ length from) → take (length room) from ≡ take n from
+    by (yes h) = ap (λ (k : ℕ). take k from) (omega arith)
+    by (no h) = take_all (length room) from (omega arith) ∙ sym (take_all n from (omega arith))
+
 -- One store.
 pub set_over_at : (room : List ℕ) (i x : ℕ) → i < length room → set room i x ≡ over_at i (x ∷ []) room
 unfolding over over_at
@@ -226,3 +239,18 @@ same_append [] [] t t' e = refl
 same_append [] (y ∷ ys) t t' e = absurd (omega arith)
 same_append (x ∷ xs) [] t t' e = absurd (omega arith)
 same_append (x ∷ xs) (y ∷ ys) t t' e = rw (same_append xs ys t t' (omega arith)) (both_assoc (eqb x y) (same_bytes xs ys) (same_bytes t t'))
+
+-- The library's `==` on slices of bytes says the same.
+and_both : (a b : Bool) → (a && b) ≡ both a b
+and_both true b = refl
+and_both false b = refl
+
+pub pointwise_same : (s t : List ℕ) → pointwise eqb s t ≡ same_bytes s t
+unfolding same_bytes
+pointwise_same [] [] = refl
+pointwise_same [] (y ∷ ys) = refl
+pointwise_same (x ∷ xs) [] = refl
+pointwise_same (x ∷ xs) (y ∷ ys) = and_both (eqb x y) (pointwise eqb xs ys) ∙ ap (both (eqb x y)) (pointwise_same xs ys)
+
+pub compared : {a b : List ℕ} {r : Bool} → r ≡ pointwise eqb a b → Compared a b r
+compared {a} {b} e = record { is = e ∙ pointwise_same a b }

@@ -1,4 +1,4 @@
--- What the loops of `words` keep, and the laws of a turn and of the end. Assumes nothing.
+-- What a loop keeps that copies, compares or fills place by place, and the laws of a turn and of the end. Assumes nothing.
 use Prim.Native.Nat.{ℕ, suc, ◌+◌, ◌<◌, ◌≤◌}
 use mathlib.Core.Path.{◌≡◌, refl, sym, ap, ◌∙◌}
 use mathlib.Core.Bool.{true, false}
@@ -8,8 +8,8 @@ use native.Mathlib.Numerals.{add-one}
 use native.Mathlib.Omega.{arith}
 use lib.ListN.{length, get_or, take, drop, set, length-set}
 use lib.Seq.{take_all, take-length, drop-length, length-take-le, drop-cons, take-suc, take-suc-set, set_at, append_snoc}
-use Rattle.words.specs.Lists.{over, Over, Copied, same_bytes, Compared}
-use Rattle.words.proofs.Lists.{same_step, same_stop, other_length}
+use Rattle.words.specs.Lists.{over, Over, same_bytes, Compared}
+use Rattle.words.proofs.Lists.{same_step, same_stop}
 
 -- The first i bytes are copied.
 pub record Copying (from room₀ room : List ℕ) (i : ℕ) : Type 0 where
@@ -39,17 +39,6 @@ unfolding over
 copied_all {from} {room₀} {room} {i} k h =
     let e : i ≡ length from = le_antisymm k.at h in
     record { is = k.is ∙ rw (e, take-length from) refl }
-
--- Where the room holds all of it, nothing is left out.
-pub copied_whole : {from room₀ room : List ℕ} → length from ≤ length room₀ → Over from room₀ room → Copied from room₀ room
-copied_whole {from} {room₀} h o = record { is = o.is ∙ rw (take_all (length room₀) from h) refl }
-
-pub copied_part : {from room₀ room : List ℕ} → Over (take (length room₀) from) room₀ room → Copied from room₀ room
-copied_part o = record { is = o.is }
-
--- Lists of other lengths.
-pub unlike : {a b : List ℕ} → (length a ≡ length b → ⊥) → Compared a b false
-unlike {a} {b} h = record { is = sym (other_length a b h) }
 
 -- Both lists are equal up to i, so the comparison is that of the rests.
 pub record Alike (a b : List ℕ) (i : ℕ) : Type 0 where
