@@ -7,7 +7,7 @@ use crate::trials::{
     answer, at_most, build_in, built, checked, cut, front, judged, refusal_of, say_fields,
     say_size, unwritten, verdict,
 };
-use packet::{Built, Refusal, Reply};
+use packet::{Refusal, Reply};
 use words::wide;
 
 pub(crate) fn rules(rt: &impl Print, t: Tally) -> Tally {
@@ -318,7 +318,7 @@ fn value_tried(a: Allowed, opcode: u8, source: u8, status: u8, n: u8, due: u8) -
     let done = packet::build(&mut room, opcode, source, status, part);
     let t = a.tally;
     let b = compared(t, refusal_of(done) == due);
-    let Built::Written(size) = done else {
+    let Ok(size) = done else {
         return Allowed {
             tally: b,
             count: a.count,

@@ -2,7 +2,7 @@
 ghost use Rattle.std.specs.Prelude.{◌≡◌, ◌<◌, ◌≤◌, length};
 
 use crate::tally::{Tally, compared, decimal, end, hex, hex_byte, more, text};
-use packet::{Built, Checked, Head, Reply};
+use packet::{Head, Refusal, Reply};
 use words::wide;
 
 // A packet that the check finds with these fields and n bytes of data and that building gives again; then it is damaged.
@@ -47,8 +47,8 @@ pub(crate) fn front(rt: &impl Print, t: Tally, bytes: &[u8], due: u8) -> Tally {
 // The number of the refusal; 0 for a packet.
 pub(crate) fn verdict(s: &[u8]) -> u8 {
     match packet::check(s) {
-        Checked::Packet(_) => 0,
-        Checked::Refused(refusal) => packet::number(refusal),
+        Ok(_) => 0,
+        Err(refusal) => packet::number(refusal),
     }
 }
 
@@ -74,11 +74,11 @@ pub(crate) fn checked(
     text(rt, b"CHECK");
     hex(rt, bytes);
     match packet::check(bytes) {
-        Checked::Packet(head) => {
+        Ok(head) => {
             let a = headed(rt, t, head, opcode, source, status);
             end(rt, t, parted(rt, a, head, bytes, n))
         }
-        Checked::Refused(refusal) => {
+        Err(refusal) => {
             say_number(rt, packet::number(refusal));
             end(rt, t, compared(t, false))
         }
@@ -194,7 +194,7 @@ pub(crate) fn build_in(
     source: u8,
     status: u8,
     part: &[u8],
-) -> Built
+) -> Result<usize, Refusal>
     requires { size ≤ length buffer.old }
 {
     packet::build(&mut buffer[..size], opcode, source, status, part)
@@ -204,30 +204,23 @@ pub(crate) fn build_in(
 pub(crate) fn judged(
     rt: &impl Print,
     t: Tally,
-    done: Built,
+    done: Result<usize, Refusal>,
     buffer: &Buffer,
     due: u8,
     written: &[u8],
 ) -> Tally {
     say_number(rt, refusal_of(done));
-    hex(rt, at_most(buffer, size_of(done)));
+    hex(rt, at_most(buffer, packet::size_of(done)));
     let a = compared(t, refusal_of(done) == due);
-    let b = compared(a, size_of(done) == written.len());
+    let b = compared(a, packet::size_of(done) == written.len());
     end(rt, t, compared(b, stands(buffer, written)))
 }
 
 // The number of the refusal; 0 where a packet was written.
-pub(crate) fn refusal_of(done: Built) -> u8 {
+pub(crate) fn refusal_of(done: Result<usize, Refusal>) -> u8 {
     match done {
-        Built::Written(_) => 0,
-        Built::Refused(refusal) => packet::number(refusal),
-    }
-}
-
-fn size_of(done: Built) -> usize {
-    match done {
-        Built::Written(size) => size,
-        Built::Refused(_) => 0,
+        Ok(_) => 0,
+        Err(refusal) => packet::number(refusal),
     }
 }
 
@@ -256,7 +249,7 @@ pub(crate) fn answer(
     judged(rt, t, done, &buffer, due, written)
 }
 
-fn answer_in(buffer: &mut [u8], size: usize, source: u8, reply: Reply) -> Built
+fn answer_in(buffer: &mut [u8], size: usize, source: u8, reply: Reply) -> Result<usize, Refusal>
     requires { size ≤ length buffer.old }
 {
     packet::answer(&mut buffer[..size], source, reply)
