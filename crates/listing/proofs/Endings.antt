@@ -8,8 +8,7 @@ use lib.ListN.{length}
 use Rattle.listing.specs.Lines.{line_of, answer_line, error_line}
 use Rattle.listing.specs.Listing.{lone_line, last_line}
 use Rattle.listing.specs.Promises.{Puts, Writes, PutsAnswer, Finishes}
-use Rattle.listing.specs.declared.Digit.{Digit}
-use Rattle.listing.specs.declared.Digit.TheVariants.{Value, No}
+use Rattle.std.proofs.Common.{Option, Some, None}
 use Rattle.listing.proofs.Lines.{length_line}
 use Rattle.listing.proofs.Rooms.{puts_nothing, writes_put}
 
@@ -36,15 +35,15 @@ answer_writes {answer} h k = let n = answer_size_lem answer in writes_put (omega
 
 -- ---- the last line
 
-module _ {ended : Bool} {waiting : Digit} {room : List ℕ} where
+module _ {ended : Bool} {waiting : Option ℕ} {room : List ℕ} where
   pub last_ended : ended ≡ true → Finishes ended waiting room 0 room
   unfolding last_line
   last_ended e = record { puts = simp e (puts_nothing) }
 
-  pub last_lone : {d r : ℕ} {room' : List ℕ} → ended ≡ false → waiting ≡ Value d → Puts error_line 0 room r room' → Finishes ended waiting room r room'
+  pub last_lone : {d r : ℕ} {room' : List ℕ} → ended ≡ false → waiting ≡ Some d → Puts error_line 0 room r room' → Finishes ended waiting room r room'
   unfolding last_line lone_line
   last_lone e w p = record { puts = simp e (rw w p) }
 
-  pub last_right : ended ≡ false → waiting ≡ No → Finishes ended waiting room 0 room
+  pub last_right : ended ≡ false → waiting ≡ None → Finishes ended waiting room 0 room
   unfolding last_line lone_line
   last_right e w = record { puts = simp e (rw w (puts_nothing)) }

@@ -1,14 +1,14 @@
 -- One law for each answer of the functions that spell bytes and put lines, and what the loop over the bytes keeps. Assumes nothing.
-use Prim.Native.Nat.{ℕ, ◌+◌, ◌*◌, ◌/◌, ◌%◌, ◌<◌, ◌≤◌}
-use mathlib.Core.Path.{◌≡◌, refl, sym, ap, ◌∙◌}
+use Prim.Native.Nat.{ℕ, ◌+◌, ◌*◌, ◌-◌, ◌<◌, ◌≤◌}
+use mathlib.Core.Path.{◌≡◌, refl, sym, ◌∙◌}
 use mathlib.Core.List.{List, [], ◌∷◌, ◌++◌, append_assoc}
 use native.Mathlib.Nat.{le_antisymm}
 use native.Mathlib.Numerals.{add-one}
 use native.Mathlib.Omega.{arith}
-use lib.ListN.{length, get_or, take, set, length-append, length-set}
+use lib.ListN.{length, get_or, take, drop, set, length-append, length-set}
 use lib.Seq.{take-length, take-suc}
 use borrow.Author.Tests.{lt-ltb, le-ltb}
-use Rattle.listing.specs.declared.Pair.{Pair}
+use Rattle.words.specs.Lists.{over, over_at}
 use Rattle.listing.specs.Lines.{capital_of, hex_byte, hex_bytes, line_of}
 use Rattle.listing.specs.Promises.{Capital, Spelt, Puts, Writes}
 use Rattle.listing.proofs.Rooms.{writes_one, writes_then, writes_length, writes_nothing, puts_none}
@@ -19,12 +19,9 @@ pub capital_decimal : {n : ℕ} → n < 10 → Capital n (48 + n)
 unfolding capital_of
 capital_decimal {n} h = record { is = simp (lt-ltb n 10 h) }
 
-pub capital_letter : {n : ℕ} → 10 ≤ n → Capital n (55 + n)
+pub capital_letter : {n : ℕ} → 10 ≤ n → Capital n (65 + (n - 10))
 unfolding capital_of
-capital_letter {n} h = record { is = simp (le-ltb n 10 h) }
-
-pub spelt_both : {b h l : ℕ} → Capital (b / 16) h → Capital (b % 16) l → Spelt b (record { high = h; low = l })
-spelt_both p q = record { is = rw (p.is, q.is) refl }
+capital_letter {n} h = let letter : 65 + (n - 10) ≡ 55 + n = omega arith in record { is = rw letter (simp (le-ltb n 10 h)) }
 
 -- ---- bytes
 
@@ -42,14 +39,12 @@ unfolding hex_bytes
 hex_bytes_append [] t = refl
 hex_bytes_append (b ∷ bs) t = rw (hex_bytes_append bs t) (sym (append_assoc (hex_byte b) (hex_bytes bs) (hex_bytes t)))
 
-pub byte_written : {b at : ℕ} {pair : Pair} {room : List ℕ} → Spelt b pair → at + 3 ≤ length room → Writes (hex_byte b) at room (at + 3) (set (set (set room at 32) (at + 1) pair.high) (at + 2) pair.low)
-unfolding hex_byte
-byte_written {b} {at} {pair} {room} s h =
-    let one = length-set room at 32 in
-    let two = length-set (set room at 32) (at + 1) pair.high in
-    let high : pair.high ≡ capital_of (b / 16) = ap (λ (p : Pair). p.high) s.is in
-    let low : pair.low ≡ capital_of (b % 16) = ap (λ (p : Pair). p.low) s.is in
-    rw (← high, ← low) (writes_then (writes_then (writes_one (omega arith) refl) (writes_one (omega arith) (omega arith))) (writes_one (omega arith) (omega arith)))
+pub byte_written : {b at : ℕ} {digits room part : List ℕ} → Spelt b digits → at + 3 ≤ length room → part ≡ 32 ∷ get_or digits 0 0 ∷ get_or digits 1 0 ∷ [] →
+    Writes (hex_byte b) at room (at + 3) (take at room ++ (part ++ drop (at + 3 - at) (drop at room)))
+unfolding hex_byte over_at over
+byte_written {at = at} s h e =
+    let three : at + 3 - at ≡ 3 = omega arith in
+    record { is = refl; room_is = rw (three, e, s.is) refl; inside = h }
 
 -- The first i bytes are spelt.
 pub record Spelling (bytes : List ℕ) (at : ℕ) (room₀ room : List ℕ) (i place : ℕ) : Type 0 where

@@ -14,8 +14,7 @@ use Rattle.listing.specs.Lines.{error_line}
 use Rattle.listing.specs.Listing.{Reading, Acts, starting, list_step, lone_line, last_line, listing_of}
 use Rattle.listing.specs.Session.{goes_on, taken_of, Hears, Session, begun, more, Ran}
 use Rattle.listing.specs.Promises.{Writes, Finishes}
-use Rattle.listing.specs.declared.Digit.{Digit}
-use Rattle.listing.specs.declared.Digit.TheVariants.{Value, No}
+use Rattle.std.proofs.Common.{Option, Some, None}
 use Rattle.listing.proofs.Lines.{length_line}
 use Rattle.listing.proofs.Rooms.{writes_put, puts_inside}
 
@@ -38,7 +37,7 @@ pub one_taken : {S : Type 0} {acts : Acts S} {most : ℕ} {s : Reading S} {text 
     s.ended ≡ false → most ≤ length room → 1 ≤ length text → 1 ≤ n
 one_taken {S} {acts} {most} {s} {text} {room} k e h t = rw k.taken_is (some_taken acts most s (length room) text e h t)
 
-pub finish_inside : {ended : Bool} {waiting : Digit} {room room' : List ℕ} {r : ℕ} → Finishes ended waiting room r room' → r ≤ length room
+pub finish_inside : {ended : Bool} {waiting : Option ℕ} {room room' : List ℕ} {r : ℕ} → Finishes ended waiting room r room' → r ≤ length room
 finish_inside k = puts_inside (omega arith) k.puts
 
 -- ---- a session
@@ -62,11 +61,11 @@ session_runs {acts = acts} {start = start} (more {taken = taken} {text = text} {
     record { stands = k.next ∙ rw (run, h.stands) refl; tells = rw (run, h.tells, lines_told k, h.stands) refl }
 
 -- Where the input ends, all that has been written is the listing of all characters taken.
-short_last : (ended : Bool) (waiting : Digit) → length (last_line ended waiting) ≤ 2
+short_last : (ended : Bool) (waiting : Option ℕ) → length (last_line ended waiting) ≤ 2
 unfolding last_line lone_line error_line
 short_last true w = omega arith
-short_last false (Value d) = let n = length_line 69 [] in omega arith
-short_last false No = omega arith
+short_last false (Some d) = let n = length_line 69 [] in omega arith
+short_last false None = omega arith
 
 pub session_ends : {S : Type 0} {acts : Acts S} {most : ℕ} {start : S} {taken written : List ℕ} {s : Reading S} {room room' : List ℕ} {r : ℕ} →
     Session acts most start taken written s → 2 ≤ length room → Finishes s.ended s.waiting room r room' → written ++ take r room' ≡ listing_of acts start taken

@@ -8,18 +8,17 @@ use Rattle.words.specs.Lists.{over}
 use Rattle.words.specs.Machine.{through}
 use Rattle.listing.specs.Listing.{Reading, Acts, list_step}
 use Rattle.listing.specs.Session.{Hears}
-use Rattle.listing.specs.declared.Digit.{Digit}
+use Rattle.std.proofs.Common.{Option}
 use Rattle.listing.specs.declared.Taken.{Taken}
-use Rattle.listing.specs.declared.Pair.{Pair}
 use Rattle.listing.specs.Promises.{IsDigit, Takes, Spelt, Puts, PutsAnswer, Finishes, GoesOn}
 
-pub digit_of_unique : {c : ℕ} {r r' : Digit} → IsDigit c r → IsDigit c r' → r ≡ r'
+pub digit_of_unique : {c : ℕ} {r r' : Option ℕ} → IsDigit c r → IsDigit c r' → r ≡ r'
 digit_of_unique p q = p.is ∙ sym q.is
 
-pub take_unique : {w : Digit} {c : ℕ} {r r' : Taken} → Takes w c r → Takes w c r' → r ≡ r'
+pub take_unique : {w : Option ℕ} {c : ℕ} {r r' : Taken} → Takes w c r → Takes w c r' → r ≡ r'
 take_unique p q = p.is ∙ sym q.is
 
-pub spelt_unique : {b : ℕ} {r r' : Pair} → Spelt b r → Spelt b r' → r ≡ r'
+pub spelt_unique : {b : ℕ} {r r' : List ℕ} → Spelt b r → Spelt b r' → r ≡ r'
 spelt_unique p q = p.is ∙ sym q.is
 
 -- For `put_line` and `put_error`.
@@ -29,7 +28,7 @@ puts_unique p q = (p.is ∙ sym q.is, p.room_is ∙ sym q.room_is)
 pub put_answer_unique : {answer room room₁ room₂ : List ℕ} {at r r' : ℕ} → PutsAnswer answer at room r room₁ → PutsAnswer answer at room r' room₂ → (r ≡ r') × (room₁ ≡ room₂)
 put_answer_unique p q = puts_unique p.puts q.puts
 
-pub put_last_unique : {ended : Bool} {waiting : Digit} {room room₁ room₂ : List ℕ} {r r' : ℕ} → Finishes ended waiting room r room₁ → Finishes ended waiting room r' room₂ → (r ≡ r') × (room₁ ≡ room₂)
+pub put_last_unique : {ended : Bool} {waiting : Option ℕ} {room room₁ room₂ : List ℕ} {r r' : ℕ} → Finishes ended waiting room r room₁ → Finishes ended waiting room r' room₂ → (r ≡ r') × (room₁ ≡ room₂)
 put_last_unique p q = puts_unique p.puts q.puts
 
 pub goes_on_unique : {ended : Bool} {most left : ℕ} {r r' : Bool} → GoesOn ended most left r → GoesOn ended most left r' → r ≡ r'

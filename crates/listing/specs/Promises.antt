@@ -1,24 +1,22 @@
 -- What each function of `listing` promises: its answer, and every byte of the room it was lent.
-use Rattle.std.specs.Prelude.{ℕ, ◌+◌, ◌/◌, ◌%◌, ◌≤◌, Bool, List, ◌≡◌, length}
+use Rattle.std.specs.Prelude.{ℕ, ◌+◌, ◌/◌, ◌%◌, ◌≤◌, Bool, Option, List, [], ◌∷◌, ◌≡◌, length}
 use Rattle.words.specs.Lists.{over_at}
 use Rattle.words.specs.Machine.{Done}
 use Rattle.listing.specs.Lines.{capital_of, answer_line, fitting}
 use Rattle.listing.specs.Listing.{Reading, last_line}
 use Rattle.listing.specs.Session.{goes_on}
-use Rattle.listing.specs.Tokens.{digit_of, sign_of, first_of, byte_of, second_of, take_of}
-use Rattle.listing.specs.declared.Digit.{Digit}
+use Rattle.listing.specs.Tokens.{digit_of, sign_of, byte_of, take_of}
 use Rattle.listing.specs.declared.Token.{Token}
 use Rattle.listing.specs.declared.Taken.{Taken}
-use Rattle.listing.specs.declared.Pair.{Pair}
 
-pub record IsDigit (character : ℕ) (r : Digit) : Type 0 where
+pub record IsDigit (character : ℕ) (r : Option ℕ) : Type 0 where
   pub is : r ≡ digit_of character
 
-pub record Takes (waiting : Digit) (character : ℕ) (r : Taken) : Type 0 where
+pub record Takes (waiting : Option ℕ) (character : ℕ) (r : Taken) : Type 0 where
   pub is : r ≡ take_of waiting character
 
-pub record Spelt (b : ℕ) (r : Pair) : Type 0 where
-  pub is : r ≡ record { high = capital_of (b / 16); low = capital_of (b % 16) }
+pub record Spelt (b : ℕ) (r : List ℕ) : Type 0 where
+  pub is : r ≡ capital_of (b / 16) ∷ capital_of (b % 16) ∷ []
 
 -- What was put, and the place behind it.
 pub record Puts (p : List ℕ) (at : ℕ) (room : List ℕ) (r : ℕ) (room' : List ℕ) : Type 0 where
@@ -28,19 +26,13 @@ pub record Puts (p : List ℕ) (at : ℕ) (room : List ℕ) (r : ℕ) (room' : L
 pub record PutsAnswer (answer : List ℕ) (at : ℕ) (room : List ℕ) (r : ℕ) (room' : List ℕ) : Type 0 where
   pub puts : Puts (answer_line answer) at room r room'
 
-pub record Finishes (ended : Bool) (waiting : Digit) (room : List ℕ) (r : ℕ) (room' : List ℕ) : Type 0 where
+pub record Finishes (ended : Bool) (waiting : Option ℕ) (room : List ℕ) (r : ℕ) (room' : List ℕ) : Type 0 where
   pub puts : Puts (last_line ended waiting) 0 room r room'
 
 pub record GoesOn (ended : Bool) (most left : ℕ) (r : Bool) : Type 0 where
   pub is : r ≡ goes_on most ended left
 
 -- ---- the functions inside
-
-pub record Second (high : ℕ) (found : Digit) (r : Taken) : Type 0 where
-  pub is : r ≡ second_of high found
-
-pub record First (found : Digit) (character : ℕ) (r : Taken) : Type 0 where
-  pub is : r ≡ first_of found character
 
 pub record Signs (character : ℕ) (r : Token) : Type 0 where
   pub is : r ≡ sign_of character

@@ -4,16 +4,10 @@
 
 ghost use Rattle.std.specs.Prelude.{◌+◌, ◌*◌, ◌<◌, ◌≤◌, length};
 ghost use Rattle.listing.specs.Lines.{hex_byte, hex_bytes, line_of, error_line};
-ghost use Rattle.listing.specs.Promises.{IsDigit, Takes, First, Second, Signs, Joined, Capital, Spelt, Puts, PutsAnswer, Writes, Finishes, GoesOn};
-
-// What a character is worth as a hex digit, of either case.
-#[derive(Clone, Copy)]
-pub enum Digit {
-    Value(u8),
-    No,
-}
+ghost use Rattle.listing.specs.Promises.{IsDigit, Takes, Signs, Joined, Capital, Spelt, Puts, PutsAnswer, Writes, Finishes, GoesOn};
 
 // What a character says, with the digit before it that waits for its second.
+// stays: six cases that each listing tells apart; an Option or a Result would only fold two of them into one and open it again.
 #[derive(Clone, Copy)]
 pub enum Token {
     Nothing,
@@ -29,78 +23,41 @@ pub enum Token {
 // A token, and the digit that waits from here on.
 #[derive(Clone, Copy)]
 pub struct Taken {
-    pub waiting: Digit,
+    pub waiting: Option<u8>,
     pub token: Token,
 }
 
-// The two capital digits of a byte.
-#[derive(Clone, Copy)]
-pub struct Pair {
-    pub high: u8,
-    pub low: u8,
-}
-
-pub fn digit_of(character: u8) -> Digit
+// What a character is worth as a hex digit, of either case.
+pub fn digit_of(character: u8) -> Option<u8>
     ensures { IsDigit character result }
 {
-    if character < b'0' {
-        return Digit::No;
+    match character {
+        b'0'..=b'9' => Some(character - b'0'),
+        b'A'..=b'F' => Some(character - b'A' + 10),
+        b'a'..=b'f' => Some(character - b'a' + 10),
+        _ => None,
     }
-    if character <= b'9' {
-        return Digit::Value(character - 48);
-    }
-    if character < b'A' {
-        return Digit::No;
-    }
-    if character <= b'F' {
-        return Digit::Value(character - 55);
-    }
-    if character < b'a' {
-        return Digit::No;
-    }
-    if character <= b'f' {
-        return Digit::Value(character - 87);
-    }
-    Digit::No
 }
 
-// One character of a listing.
-pub fn take(waiting: Digit, character: u8) -> Taken
+// One character of a listing. A digit after one that waits makes a byte; nothing else may stand between the two.
+pub fn take(waiting: Option<u8>, character: u8) -> Taken
     ensures { Takes waiting character result }
 {
-    let found = digit_of(character);
-    match waiting {
-        Digit::Value(high) => second(high, found),
-        Digit::No => first(found, character),
-    }
-}
-
-// A digit after one that waits makes a byte; nothing else may stand between the two.
-fn second(high: u8, found: Digit) -> Taken
-    ensures { Second high found result }
-{
-    match found {
-        Digit::Value(low) => Taken {
-            waiting: Digit::No,
+    match (waiting, digit_of(character)) {
+        (Some(high), Some(low)) => Taken {
+            waiting: None,
             token: Token::Byte(joined(high, low)),
         },
-        Digit::No => Taken {
-            waiting: Digit::No,
+        (Some(_), None) => Taken {
+            waiting: None,
             token: Token::Lone,
         },
-    }
-}
-
-fn first(found: Digit, character: u8) -> Taken
-    ensures { First found character result }
-{
-    match found {
-        Digit::Value(value) => Taken {
-            waiting: Digit::Value(value),
+        (None, Some(first)) => Taken {
+            waiting: Some(first),
             token: Token::Nothing,
         },
-        Digit::No => Taken {
-            waiting: Digit::No,
+        (None, None) => Taken {
+            waiting: None,
             token: sign(character),
         },
     }
@@ -110,22 +67,12 @@ fn first(found: Digit, character: u8) -> Taken
 fn sign(character: u8) -> Token
     ensures { Signs character result }
 {
-    if character == b' ' {
-        return Token::Nothing;
+    match character {
+        b' ' | b'\n' | b'\r' => Token::Nothing,
+        b'.' => Token::CharacterGap,
+        b'/' => Token::MessageGap,
+        _ => Token::Sign(character),
     }
-    if character == b'\n' {
-        return Token::Nothing;
-    }
-    if character == b'\r' {
-        return Token::Nothing;
-    }
-    if character == b'.' {
-        return Token::CharacterGap;
-    }
-    if character == b'/' {
-        return Token::MessageGap;
-    }
-    Token::Sign(character)
 }
 
 // The byte of two digits; of any other value the lowest four bits count.
@@ -135,23 +82,21 @@ fn joined(high: u8, low: u8) -> u8
     high % 16 * 16 + low % 16
 }
 
-pub fn spelt(b: u8) -> Pair
+// The two capital digits of a byte, the high one first.
+pub fn spelt(b: u8) -> [u8; 2]
     ensures { Spelt b result }
 {
-    Pair {
-        high: capital(b / 16),
-        low: capital(b % 16),
-    }
+    [capital(b / 16), capital(b % 16)]
 }
 
 fn capital(n: u8) -> u8
     requires { n < 16 }
     ensures { Capital n result }
 {
-    if n < 10 {
-        return 48 + n;
+    match n {
+        0..=9 => b'0' + n,
+        _ => b'A' + (n - 10),
     }
-    55 + n
 }
 
 // A line from a place of the room on: its letter, each byte after a space, a line feed. Answers the next place, which is the same where
@@ -185,11 +130,9 @@ fn spell(bytes: &[u8], room: &mut [u8], at: usize) -> usize
     requires { at + 3 * length bytes.now ≤ length room.old }
     ensures { Writes (hex_bytes bytes.now) at room.old result room.new }
 {
-    let mut i = 0;
     let mut place = at;
-    while i < bytes.len() {
-        place = spell_byte(bytes[i], room, place);
-        i += 1;
+    for b in bytes {
+        place = spell_byte(*b, room, place);
     }
     place
 }
@@ -198,10 +141,8 @@ fn spell_byte(b: u8, room: &mut [u8], at: usize) -> usize
     requires { at + 3 ≤ length room.old }
     ensures { Writes (hex_byte b) at room.old result room.new }
 {
-    let pair = spelt(b);
-    room[at] = b' ';
-    room[at + 1] = pair.high;
-    room[at + 2] = pair.low;
+    let [high, low] = spelt(b);
+    room[at..at + 3].copy_from_slice(&[b' ', high, low]);
     at + 3
 }
 
@@ -209,7 +150,7 @@ fn spell_byte(b: u8, room: &mut [u8], at: usize) -> usize
 pub fn put_answer(answer: &[u8], room: &mut [u8], at: usize) -> usize
     ensures { PutsAnswer answer.now at room.old result room.new }
 {
-    if answer.len() == 0 {
+    if answer.is_empty() {
         return at;
     }
     put_line(b'A', answer, room, at)
@@ -223,15 +164,15 @@ pub fn put_error(room: &mut [u8], at: usize) -> usize
 }
 
 // The line due at the end of a text, if one is: a digit that still waits stands alone.
-pub fn put_last(ended: bool, waiting: Digit, room: &mut [u8]) -> usize
+pub fn put_last(ended: bool, waiting: Option<u8>, room: &mut [u8]) -> usize
     ensures { Finishes ended waiting room.old result room.new }
 {
     if ended {
         return 0;
     }
     match waiting {
-        Digit::Value(_) => put_error(room, 0),
-        Digit::No => 0,
+        Some(_) => put_error(room, 0),
+        None => 0,
     }
 }
 
@@ -239,8 +180,5 @@ pub fn put_last(ended: bool, waiting: Digit, room: &mut [u8]) -> usize
 pub fn goes_on(ended: bool, most: usize, left: usize) -> bool
     ensures { GoesOn ended most left result }
 {
-    if ended {
-        return false;
-    }
-    most <= left
+    !ended && most <= left
 }

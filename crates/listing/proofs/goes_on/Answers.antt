@@ -1,11 +1,11 @@
--- `listing::goes_on_lem` meets its contract: both tests of the definition. Assumes nothing.
+-- `listing::goes_on` meets its contract: both tests of the definition. Assumes nothing.
 use Rattle.listing.specs.Session.{goes_on}
 use Rattle.listing.proofs.goes_on.Goals as goal
 
-pub returns-then-ended : goal.returns-then-ended
+pub returns-then-not-ended : goal.returns-then-not-ended
 unfolding goes_on
-returns-then-ended c = record { is = simp c.if-ended.true }
+returns-then-not-ended c = record { is = simp c.if-not-ended.true }
 
-pub returns : goal.returns
+pub returns-else-not-ended : goal.returns-else-not-ended
 unfolding goes_on
-returns c = record { is = simp c.if-ended.false }
+returns-else-not-ended c = record { is = simp c.if-not-ended.false }

@@ -5,8 +5,8 @@ use Rattle.listing.proofs.put_last.Goals as goal
 pub returns-then-ended : goal.returns-then-ended
 returns-then-ended c = last_ended c.if-ended.true
 
-pub returns-in-Value : goal.returns-in-Value
-returns-in-Value c = last_lone c.if-ended.false c.in-Value.is c.put_error.ensures
+pub returns-in-Some : goal.returns-in-Some
+returns-in-Some c = last_lone c.if-ended.false c.in-Some.is c.put_error.ensures
 
-pub returns-in-No : goal.returns-in-No
-returns-in-No c = last_right c.if-ended.false c.in-No.is
+pub returns-in-None : goal.returns-in-None
+returns-in-None c = last_right c.if-ended.false c.in-None.is
