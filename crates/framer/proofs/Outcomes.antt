@@ -7,6 +7,7 @@ use native.Mathlib.Omega.{arith}
 use lib.Dec.{eqb, ltb}
 use lib.ListN.{length, get_or, take, drop, get_or-append}
 use lib.Seq.{take-append-le}
+use Rattle.std.specs.Prelude.{Ok, Err}
 use Rattle.words.specs.Lists.{pick, Bytes, over}
 use Rattle.words.specs.Machine.{Done}
 use Rattle.words.proofs.Lists.{never}
@@ -15,7 +16,6 @@ use Rattle.packet.specs.Sizes.{body_size, packet_size}
 use Rattle.packet.specs.declared.Refusal.{Refusal}
 use Rattle.packet.specs.declared.Refusal.TheVariants.{Length, Checksum, Cut}
 use Rattle.packet.specs.declared.Head.{Head}
-use Rattle.packet.specs.declared.Checked.TheVariants as checked
 use Rattle.packet.proofs.Theorems.{accepted, accepted_head}
 use Rattle.framer.specs.Framer.{Line, hearing, deaf, Heard, packet, refused, quiet, says, judged, at_gap, at_byte, framer_step}
 use Rattle.framer.specs.Promises.{begun_of, line_of, found_of, stored_of, Frames}
@@ -34,10 +34,10 @@ pub data Brings : Line → Event → Done Line Heard → Type 0 where
   cut : {l : Line} {e : Event} → Brings l e (says (hearing []) (refused Cut))
   low : {l : Line} {e : Event} → Brings l e (says deaf (refused Length))
   wrong : {l : Line} {e : Event} → Brings l e (says deaf (refused Checksum))
-  whole : {got : List ℕ} {b : ℕ} {h : Head} → check_of (got ++ (b ∷ [])) ≡ checked.Packet h → Brings (hearing got) (Byte b) (says (hearing []) (packet (body_in (got ++ (b ∷ [])))))
+  whole : {got : List ℕ} {b : ℕ} {h : Head} → check_of (got ++ (b ∷ [])) ≡ Ok h → Brings (hearing got) (Byte b) (says (hearing []) (packet (body_in (got ++ (b ∷ [])))))
 
 brings_byte : (got s : List ℕ) (b : ℕ) (none small few right : Bool) → s ≡ got ++ (b ∷ []) →
-    check_of s ≡ pick none (checked.Refused Cut) (pick small (checked.Refused Length) (pick few (checked.Refused Cut) (pick right (checked.Packet (head_in s)) (checked.Refused Checksum)))) →
+    check_of s ≡ pick none (Err Cut) (pick small (Err Length) (pick few (Err Cut) (pick right (Ok (head_in s)) (Err Checksum)))) →
     Brings (hearing got) (Byte b) (judged s (check_of s))
 unfolding judged
 brings_byte got s b true small few right e f = rw f nothing

@@ -8,15 +8,15 @@ use lib.Dec.{eqb}
 use lib.ListN.{length, get_or, take, drop, set, length-take, length-drop, length-append, take-append-drop, get_or-append}
 use lib.Seq.{get_or-take}
 use borrow.Author.Tests.{lt-ltb, le-ltb, ne_eqb, eqb-true}
-use Rattle.words.specs.Lists.{Bytes, Wide}
+use Rattle.std.specs.Prelude.{Result, Ok, Err, Some, None}
+use Rattle.words.specs.Lists.{Bytes}
 use Rattle.words.proofs.Lists.{never, bytes_take, bytes_drop}
 use Rattle.packet.specs.Packet.{check_of}
 use Rattle.packet.specs.Refusals.{number_of}
 use Rattle.packet.specs.Sizes.{packet_size}
+use Rattle.packet.specs.declared.Head.{Head}
 use Rattle.packet.specs.declared.Refusal.{Refusal}
 use Rattle.packet.specs.declared.Refusal.TheVariants.{Cut}
-use Rattle.packet.specs.declared.Checked.{Checked}
-use Rattle.packet.specs.declared.Checked.TheVariants as checked
 use Rattle.packet.proofs.Theorems.{few_cut, turned}
 use Rattle.framer.specs.Framer.{silent, judged, at_byte, framer_step}
 use Rattle.framer.specs.Promises.{begun_of, line_of, Begun, Frames}
@@ -28,7 +28,7 @@ use Rattle.framer.specs.declared.Framer.{Framer}
 use Rattle.framer.specs.declared.Going.{Going}
 use Rattle.framer.specs.declared.Going.TheVariants.{On, Woken, Left}
 use Rattle.framer.proofs.Outcomes.{brings, told_refused, found_is}
-use Rattle.framer.proofs.Steps.{so_far, line_hearing, byte_deaf, byte_refused, gap_deaf, gap_idle, gap_cut, hear_gap}
+use Rattle.framer.proofs.Steps.{so_far, line_hearing, byte_deaf, byte_refused, gap_deaf, gap_idle, gap_cut, gap_frames}
 use Rattle.framer.proofs.TwoHalves.{listens, listened_nothing, place_most}
 
 -- ---- a byte in one half
@@ -42,25 +42,25 @@ pub whole_told_lem : (s : List ℕ) → get_or s 0 0 + 2 ≤ length s → silent
 unfolding judged silent
 whole_told_lem s l = by (check_of s) refl
   where
-    refused_by : (x : Refusal) (d : Bool) → eqb (number_of x) 3 ≡ d → check_of s ≡ checked.Refused x → silent (judged s (checked.Refused x)).told ≡ false
+    refused_by : (x : Refusal) (d : Bool) → eqb (number_of x) 3 ≡ d → check_of s ≡ Err x → silent (judged s (Err x)).told ≡ false
     refused_by x true e q = let m = (turned s q).cut (eqb-true (number_of x) 3 e) in absurd (omega arith)
     refused_by x false e q = simp e
 
-    by : (c : Checked) → check_of s ≡ c → silent (judged s c).told ≡ false
-    by (checked.Packet h) q = refl
-    by (checked.Refused x) q = refused_by x (eqb (number_of x) 3) refl q
+    by : (c : Result Head Refusal) → check_of s ≡ c → silent (judged s c).told ≡ false
+    by (Ok h) q = refl
+    by (Err x) q = refused_by x (eqb (number_of x) 3) refl q
 
 -- The first byte of a packet of which n bytes stand in the line and b comes: its length.
 pub record First (line : List ℕ) (n b w : ℕ) : Type 0 where
   pub is : w ≡ get_or (take n line ++ (b ∷ [])) 0 0
 
-pub first_comes : {line : List ℕ} {b w : ℕ} → Wide b w → First line 0 b w
-first_comes w = record { is = w.is }
+pub first_comes : {line : List ℕ} {b w : ℕ} → w ≡ b → First line 0 b w
+first_comes e = record { is = e }
 
-pub first_stands : {line : List ℕ} {n b w : ℕ} → packet_size ≤ length line → (n ≡ 0 → ⊥) → Wide (get_or line 0 0) w → First line n b w
-first_stands {line} {n} {b} long some w =
+pub first_stands : {line : List ℕ} {n b w : ℕ} → packet_size ≤ length line → (n ≡ 0 → ⊥) → w ≡ get_or line 0 0 → First line n b w
+first_stands {line} {n} {b} long some e =
     let size : 0 < length (take n line) = simp length-take (omega arith) in
-    record { is = w.is ∙ sym (get_or-append (take n line) (b ∷ []) 0 0 size ∙ get_or-take n line 0 0 (omega arith)) }
+    record { is = e ∙ sym (get_or-append (take n line) (b ∷ []) 0 0 size ∙ get_or-take n line 0 0 (omega arith)) }
 
 module _ {f : Framer} {line : List ℕ} {b n w : ℕ} (long : packet_size ≤ length line) (hears : f.deaf ≡ false) (begun : Begun f n) (first : First line n b w) where
   size : length (take n line ++ (b ∷ [])) ≡ n + 1
@@ -71,27 +71,27 @@ module _ {f : Framer} {line : List ℕ} {b n w : ℕ} (long : packet_size ≤ le
   unfolding framer_step at_byte
   heard = rw (line_hearing f line hears begun) refl
 
-  pub inside_low : w < 4 → Inside f line b 0 line
+  pub inside_low : w < 4 → Inside f line b None line
   inside_low l =
       let k = size in
       let e = first.is in
-      record { frames = λ h. absurd (h refl); left = λ z. (refl, heard ∙ low_told (take n line ++ (b ∷ [])) (λ y. omega arith) (omega arith)) }
+      record { frames = λ z. never (cc); left = λ z. (refl, heard ∙ low_told (take n line ++ (b ∷ [])) (λ y. omega arith) (omega arith)) }
 
-  pub inside_past : w < n → Inside f line b 0 line
+  pub inside_past : w < n → Inside f line b None line
   inside_past l =
       let k = size in
       let e = first.is in
-      record { frames = λ h. absurd (h refl); left = λ z. (refl, heard ∙ whole_told_lem (take n line ++ (b ∷ [])) (omega arith)) }
+      record { frames = λ z. never (cc); left = λ z. (refl, heard ∙ whole_told_lem (take n line ++ (b ∷ [])) (omega arith)) }
 
-  pub inside_stored : 4 ≤ w → n ≤ w → Inside f line b (n + 1) (set line n b)
+  pub inside_stored : 4 ≤ w → n ≤ w → Inside f line b (Some (n + 1)) (set line n b)
   inside_stored low l =
       let k = size in
       let e = first.is in
-      let few : check_of (take (n + 1) (set line n b)) ≡ checked.Refused Cut =
+      let few : check_of (take (n + 1) (set line n b)) ≡ Err Cut =
       rw (so_far f line n b long hears begun) (few_cut (take n line ++ (b ∷ [])) (omega arith) (omega arith)) in
       record {
-        frames = λ h. byte_refused long hears begun (record { is = sym few }) refl refl (record { is = refl });
-        left = λ z. absurd (omega arith);
+        frames = λ {n = m} z. let same : m ≡ n + 1 = cc in rw same (byte_refused long hears begun (record { is = sym few }) refl refl (record { is = refl }));
+        left = λ z. never (cc);
       }
 
 -- Nothing is begun.
@@ -133,35 +133,35 @@ still {f} {next} {second} {buffer} {e} long bytes frames last =
     let place : Place second a = record { is = refl; most = most } in
     let back : take a buffer ++ (take (a + packet_size - a) (drop a buffer) ++ drop (a + packet_size - a) (drop a buffer)) ≡ buffer = whole_again a (a + packet_size - a) buffer in
     rw back at
-    (listens {h = halves_with f second last} {buffer = buffer} {e = e} long place (record { is = refl }) (frames (take (a + packet_size - a) (drop a buffer)) (simp (length-take, length-drop) (omega arith))) (rw back bytes))
+    (listens {h = halves_with f second last} {buffer = buffer} {e = e} long place (frames (take (a + packet_size - a) (drop a buffer)) (simp (length-take, length-drop) (omega arith))) (rw back bytes))
 
 pub carry_deaf : {f : Framer} {second : Bool} {buffer : List ℕ} {b : ℕ} → length buffer ≡ line_size → Bytes buffer → f.deaf ≡ true →
     GoesOn f second buffer (Byte b) (On 0) buffer
 carry_deaf long bytes e = goes_byte {next = record { count = 0; deaf = true }} (λ z. never (cc)) (rw e refl) (still long bytes (λ line h. byte_deaf h e (record { is = refl })))
 
 pub carry_on : {f : Framer} {second : Bool} {buffer half : List ℕ} {b a r : ℕ} → length buffer ≡ line_size → f.deaf ≡ false → Place second a →
-    Inside f (take (a + packet_size - a) (drop a buffer)) b r half → (r ≡ 0 → ⊥) → Bytes (take a buffer ++ (half ++ drop (a + packet_size - a) (drop a buffer))) →
+    Inside f (take (a + packet_size - a) (drop a buffer)) b (Some r) half → Bytes (take a buffer ++ (half ++ drop (a + packet_size - a) (drop a buffer))) →
     GoesOn f second buffer (Byte b) (On r) (take a buffer ++ (half ++ drop (a + packet_size - a) (drop a buffer)))
-carry_on {r = r} long e p k some bytes = goes_byte {next = record { count = r; deaf = false }} (λ z. never (cc)) (rw e refl) (λ last. listens long p (record { is = refl }) (k.frames some) bytes)
+carry_on {r = r} long e p k bytes = goes_byte {next = record { count = r; deaf = false }} (λ z. never (cc)) (rw e refl) (λ last. listens long p (k.frames refl) bytes)
 
-pub carry_left : {f : Framer} {second : Bool} {buffer half : List ℕ} {b a r : ℕ} → Place second a →
-    Inside f (take (a + packet_size - a) (drop a buffer)) b r half → r ≡ 0 →
+pub carry_left : {f : Framer} {second : Bool} {buffer half : List ℕ} {b a : ℕ} → Place second a →
+    Inside f (take (a + packet_size - a) (drop a buffer)) b None half →
     GoesOn f second buffer (Byte b) Left (take a buffer ++ (half ++ drop (a + packet_size - a) (drop a buffer)))
 unfolding goes_on tells_nothing line_in half_of
-carry_left {f} {second} {buffer} {half} {b} {a} {r} p k none =
+carry_left {f} {second} {buffer} {half} {b} {a} p k =
     let size : a + packet_size - a ≡ packet_size = omega arith in
-    let told = k.left none in
+    let told = k.left refl in
     left {buffer' = take a buffer ++ (half ++ drop (a + packet_size - a) (drop a buffer))} (rw (sym p.is) (rw size at told.1)) (rw told.0 (whole_again a (a + packet_size - a) buffer))
 
 -- ---- a gap
 
 module _ {f : Framer} {second : Bool} {buffer : List ℕ} (long : length buffer ≡ line_size) (bytes : Bytes buffer) where
   pub pause_woken : f.deaf ≡ true → GoesOn f second buffer CharacterGap Woken buffer
-  pause_woken e = goes_gap {next = record { count = 0; deaf = false }} (λ z. never (cc)) (rw e refl) (still long bytes (λ line h. hear_gap refl h (gap_deaf e (record { is = refl }))))
+  pause_woken e = goes_gap {next = record { count = 0; deaf = false }} (λ z. never (cc)) (rw e refl) (still long bytes (λ line h. gap_frames h (gap_deaf e (record { is = refl }))))
 
   module _ {n : ℕ} (e : f.deaf ≡ false) (begun : Begun f n) where
     pub pause_on : n ≡ 0 → GoesOn f second buffer CharacterGap (On 0) buffer
-    pause_on z = goes_gap {next = record { count = 0; deaf = false }} (λ z. never (cc)) (rw e refl) (still long bytes (λ line h. hear_gap refl h (gap_idle e begun z (record { is = refl }))))
+    pause_on z = goes_gap {next = record { count = 0; deaf = false }} (λ z. never (cc)) (rw e refl) (still long bytes (λ line h. gap_frames h (gap_idle e begun z (record { is = refl }))))
 
     pub pause_left : (n ≡ 0 → ⊥) → GoesOn f second buffer CharacterGap Left buffer
     unfolding goes_on tells_nothing line_in half_of silent
@@ -169,7 +169,7 @@ module _ {f : Framer} {second : Bool} {buffer : List ℕ} (long : length buffer 
         let most = place_most second in
         let half : List ℕ = take packet_size (drop (place_of second) buffer) in
         let size : packet_size ≤ length half = simp (length-take, length-drop) (omega arith) in
-        let k = hear_gap refl size (gap_cut e begun some (record { is = refl })) in
+        let k = gap_frames size (gap_cut e begun some (record { is = refl })) in
         let told = told_refused (brings (line_of f half) CharacterGap) (found_is size k (bytes_take packet_size (bytes_drop (place_of second) bytes))) in
         left (rw told refl) refl
 

@@ -1,5 +1,5 @@
 -- Many bytes at once: bytes that are moved inside a packet, or ignored, are as many events of which nothing is told. Assumes nothing.
-use Prim.Native.Nat.{ℕ, suc, ◌+◌, ◌-◌, ◌≤◌, ◌<◌}
+use Prim.Native.Nat.{ℕ, suc, ◌+◌, ◌-◌, ◌≤◌, ◌<◌, min}
 use mathlib.Core.Path.{◌≡◌, refl, sym, ap, ◌∙◌}
 use mathlib.Core.Bool.{Bool, true, false}
 use mathlib.Core.Logic.{◌⊎◌, inl, inr}
@@ -11,15 +11,15 @@ use lib.ListN.{length, get_or, take, drop, set, length-append, length-take, leng
 use lib.Seq.{length-take-le, get_or-take, take-length, drop-length, set_split, drop-set-add, take-set-lt, take-suc-set}
 use lib.Dec.{eqb, ltb}
 use borrow.Author.Tests.{eq-eqb, ne_eqb, eqb-true, eqb-false, ltb-true, ltb-false}
-use Rattle.words.specs.Lists.{pick, Bytes, Wide, Copied, over_at}
+use Rattle.words.specs.Lists.{pick, Bytes, Copied, over_at}
 use Rattle.words.specs.Machine.{after, through}
-use Rattle.words.proofs.Lists.{bytes_take, bytes_drop, bytes_append, bytes_cons, bytes_head, bytes_tail, set_over_at, over_at_behind, rest_part, back, part_over, copied_over}
+use Rattle.words.proofs.Lists.{bytes_take, bytes_drop, bytes_append, bytes_cons, bytes_head, bytes_tail, set_over_at, over_at_behind, rest_part, part_over, copied_over}
 use Rattle.packet.specs.Packet.{check_of}
 use Rattle.packet.specs.Sizes.{packet_size}
 use Rattle.framer.specs.Framer.{hearing, silent, judged, at_byte, framer_step}
 use Rattle.framer.specs.Promises.{Begun, Deaf}
-use Rattle.framer.specs.Halves.{line_size, place_of, half_of, line_in, kept_in, halves_with, listened_of, buffer_after, moved_of, Listens, Place, Moved}
-use Rattle.framer.specs.Silence.{listen_step, silent_for, TakesIn, HeardSo, length_of, LengthOf, InsideOf}
+use Rattle.framer.specs.Halves.{line_size, place_of, half_of, line_in, kept_in, halves_with, listened_of, buffer_after, moved_of, Listens, Place}
+use Rattle.framer.specs.Silence.{listen_step, silent_for, TakesIn, length_of, LengthOf, InsideOf}
 use Rattle.framer.specs.declared.Event.TheVariants.{Byte}
 use Rattle.framer.specs.declared.Found.TheVariants.{Nothing}
 use Rattle.framer.specs.declared.Framer.{Framer}
@@ -121,7 +121,7 @@ module _ (second : Bool) (buffer : List ℕ) (n b : ℕ) (long : length buffer �
       let m = place_most second in
       let h : Halves = halves_with f second last in
       let a = place_of second in
-      let fr = (inside_stored {f = f} {line = half_of second buffer} (omega arith) hears begun first low inside).frames (λ z. omega arith) in
+      let fr = (inside_stored {f = f} {line = half_of second buffer} (omega arith) hears begun first low inside).frames refl in
       record {
         is = ap (λ (u : Framed). record { halves = moved_of h u.framer; found = u.found }) fr.is;
         buffer_is = sym (set_back a buffer n b (omega arith)) ∙ ap (λ (l : List ℕ). take a buffer ++ (l ++ drop packet_size (drop a buffer))) fr.line_is;
@@ -181,36 +181,31 @@ next_tells got (y ∷ ys) h = simp (told (h (omega arith)))
 
 -- ---- one law for each answer
 
-pub length_stands : {n w : ℕ} {line bytes : List ℕ} → (n ≡ 0 → ⊥) → Wide (get_or line 0 0) w → LengthOf n line bytes w
-length_stands {n} some w = record { is = simp (ne_eqb n 0 some) w.is; small = w.small }
+pub length_stands : {n w : ℕ} {line bytes : List ℕ} → (n ≡ 0 → ⊥) → w ≡ get_or line 0 0 → w < 256 → LengthOf n line bytes w
+length_stands {n} some e l = record { is = simp (ne_eqb n 0 some) e; small = l }
 
-pub length_comes : {n w : ℕ} {line bytes : List ℕ} → n ≡ 0 → Wide (get_or bytes 0 0) w → LengthOf n line bytes w
-length_comes {n} e w = record { is = simp (eq-eqb n 0 e) w.is; small = w.small }
+pub length_comes : {n w : ℕ} {line bytes : List ℕ} → n ≡ 0 → w ≡ get_or bytes 0 0 → w < 256 → LengthOf n line bytes w
+length_comes {n} z e l = record { is = simp (eq-eqb n 0 z) e; small = l }
 
 module _ {n w : ℕ} {line bytes : List ℕ} (k : LengthOf n line bytes w) where
-  pub inside_low : w < 4 → InsideOf n line bytes 0
-  inside_low l = let e = k.is in let s = k.small in record { few = omega arith; inside = λ z. absurd (z refl); ends = λ m q. absurd (omega arith); small = omega arith }
+  pub inside_left : (w < n) ⊎ ((n ≤ w) × (w < 4)) → InsideOf n line bytes 0
+  inside_left (inl l) = let e = k.is in let s = k.small in record { few = omega arith; inside = λ z. absurd (z refl); ends = λ m q. omega arith; small = omega arith }
+  inside_left (inr l) = let e = k.is in let s = k.small in let low = l.1 in record { few = omega arith; inside = λ z. absurd (z refl); ends = λ m q. absurd (omega arith); small = omega arith }
 
-  pub inside_past : w < n → InsideOf n line bytes 0
-  inside_past l = let e = k.is in let s = k.small in record { few = omega arith; inside = λ z. absurd (z refl); ends = λ m q. omega arith; small = omega arith }
-
-  pub inside_most : 4 ≤ w → n ≤ w → w + 1 - n < length bytes → InsideOf n line bytes (w + 1 - n)
-  inside_most low l m = let e = k.is in let s = k.small in record { few = omega arith; inside = λ z. (omega arith, omega arith); ends = λ m q. omega arith; small = omega arith }
-
-  pub inside_all : 4 ≤ w → n ≤ w → length bytes ≤ w + 1 - n → InsideOf n line bytes (length bytes)
-  inside_all low l m = let e = k.is in let s = k.small in record { few = omega arith; inside = λ z. (omega arith, omega arith); ends = λ m q. absurd (omega arith); small = omega arith }
+  pub inside_most : {r : ℕ} → 4 ≤ w → n ≤ w → r ≡ min (length bytes) (w + 1 - n) → InsideOf n line bytes r
+  inside_most low l least = let e = k.is in let s = k.small in record { few = omega arith; inside = λ z. (omega arith, omega arith); ends = λ m q. omega arith; small = omega arith }
 
 pub takes_none : {h : Halves} {buffer bytes : List ℕ} → length bytes ≡ 0 → TakesIn h buffer bytes (record { halves = h; count = 0 }) buffer
 unfolding silent_for
 takes_none {bytes = []} e = taken_in 0 [] (omega arith) none refl
 takes_none {bytes = b ∷ bs} e = absurd (omega arith)
 
-pub takes_deaf : {h h' : Halves} {f : Framer} {buffer bytes : List ℕ} → length buffer ≡ line_size → Bytes buffer → (length bytes ≡ 0 → ⊥) → h.framer.deaf ≡ true → Deaf f → Moved h f h' →
-    TakesIn h buffer bytes (record { halves = h'; count = length bytes }) buffer
+pub takes_deaf : {h : Halves} {f : Framer} {buffer bytes : List ℕ} → length buffer ≡ line_size → Bytes buffer → (length bytes ≡ 0 → ⊥) → h.framer.deaf ≡ true → Deaf f →
+    TakesIn h buffer bytes (record { halves = moved_of h f; count = length bytes }) buffer
 unfolding silent_for
-takes_deaf {bytes = []} long k some e d m = absurd (some refl)
-takes_deaf {h} {buffer = buffer} {bytes = b ∷ bs} long k some e d m =
-    rw (m.is, d.is)
+takes_deaf {bytes = []} long k some e d = absurd (some refl)
+takes_deaf {h} {buffer = buffer} {bytes = b ∷ bs} long k some e d =
+    rw d.is
     (taken_in (length (b ∷ bs)) (b ∷ bs) (omega arith) (rw (take-length (b ∷ bs)) (ignores {f = h.framer} {second = h.second} {last = h.last} b bs long k e)) (rw (drop-length (b ∷ bs)) refl))
 
 -- What stands of the packet in the half that receives.
@@ -218,7 +213,7 @@ abbrev got_in : Halves → List ℕ → ℕ → List ℕ
 got_in h buffer n = take n (half_of h.second buffer)
 
 module _ (h : Halves) (buffer bytes : List ℕ) (a n k : ℕ) (long : length buffer ≡ line_size) (hears : h.framer.deaf ≡ false) (place : Place h.second a) (begun : Begun h.framer n)
-    (inside : InsideOf n (take (length buffer - a) (drop a buffer)) bytes k) where
+    (inside : InsideOf n (take (line_size - a) (drop a buffer)) bytes k) where
   length_got : length (got_in h buffer n) ≡ n
   length_got = let m = begun.most in let size = length_half h.second buffer n 0 long m in length-take-le n (half_of h.second buffer) (omega arith)
 
@@ -233,19 +228,19 @@ module _ (h : Halves) (buffer bytes : List ℕ) (a n k : ℕ) (long : length buf
       rw place.is
       (sym (get_or-append (take n half) bytes 0 0 (omega arith) ∙ (get_or-take n half 0 0 (omega arith) ∙ get_or-take packet_size (drop (place_of h.second) buffer) 0 0 (omega arith))))
 
-  first_is : length_of n (take (length buffer - a) (drop a buffer)) bytes ≡ get_or (got_in h buffer n ++ bytes) 0 0
-  first_is = rw (rest_part a buffer) (first_by (eqb n 0) refl)
+  first_is : length_of n (take (line_size - a) (drop a buffer)) bytes ≡ get_or (got_in h buffer n ++ bytes) 0 0
+  first_is = let part : take (line_size - a) (drop a buffer) ≡ drop a buffer = rw (← long) (rest_part a buffer) in rw part (first_by (eqb n 0) refl)
 
   -- What is left of the bytes starts with one of which the framer tells.
   ends_told : silent_for (hearing (got_in h buffer n ++ take k bytes)) (drop k bytes) ≡ 0
   ends_told =
       let e = first_is in
       let all : (got_in h buffer n ++ take k bytes) ++ drop k bytes ≡ got_in h buffer n ++ bytes = append_assoc (got_in h buffer n) (take k bytes) (drop k bytes) ∙ ap (λ (l : List ℕ). got_in h buffer n ++ l) (take-append-drop k bytes) in
-      let first : get_or ((got_in h buffer n ++ take k bytes) ++ drop k bytes) 0 0 ≡ length_of n (take (length buffer - a) (drop a buffer)) bytes = ap (λ (l : List ℕ). get_or l 0 0) all ∙ sym e in
+      let first : get_or ((got_in h buffer n ++ take k bytes) ++ drop k bytes) 0 0 ≡ length_of n (take (line_size - a) (drop a buffer)) bytes = ap (λ (l : List ℕ). get_or l 0 0) all ∙ sym e in
       let few = inside.few in
       let size : length (got_in h buffer n ++ take k bytes) ≡ n + k = length-append (got_in h buffer n) (take k bytes) ∙ (let g = length_got in let t = length-take-le k bytes few in omega arith) in
       next_tells (got_in h buffer n ++ take k bytes) (drop k bytes)
-      (λ some. rw (first, size) (split (length_of n (take (length buffer - a) (drop a buffer)) bytes) (inside.ends (let m = length-drop k bytes in omega arith))))
+      (λ some. rw (first, size) (split (length_of n (take (line_size - a) (drop a buffer)) bytes) (inside.ends (let m = length-drop k bytes in omega arith))))
     where
       split : (w : ℕ) → (4 ≤ w → w + 1 ≤ n + k) → (w < 4) ⊎ (w + 1 ≤ n + k)
       split w f = by (ltb w 4) refl
@@ -265,7 +260,7 @@ module _ (h : Halves) (buffer bytes : List ℕ) (a n k : ℕ) (long : length buf
   moved_in : Bytes buffer → Bytes bytes → (t : List ℕ) → take k bytes ≡ t → (length t ≡ 0 → ⊥) → Moves h.second h.last n h.framer buffer t
   moved_in bb cb [] e some = absurd (some refl)
   moved_in bb cb (b ∷ bs) e some =
-      let w = length_of n (take (length buffer - a) (drop a buffer)) bytes in
+      let w = length_of n (take (line_size - a) (drop a buffer)) bytes in
       let size : length (b ∷ bs) ≡ k = ap length (sym e) ∙ length-take-le k bytes inside.few in
       let fits = inside.inside (λ z. omega arith) in
       let held = length_got in
@@ -276,19 +271,19 @@ module _ (h : Halves) (buffer bytes : List ℕ) (a n k : ℕ) (long : length buf
       first_is ∙ (ap (λ (l : List ℕ). get_or l 0 0) all ∙ get_or-append (got_in h buffer n ++ (b ∷ bs)) (drop k bytes) 0 0 (omega arith)) in
       moves h.second h.last n h.framer buffer b bs w long bb (rw e at (bytes_take k cb)) hears begun first fits.0 inside.small (let f = fits.1 in omega arith)
 
-  pub takes_moved : {h' : Halves} {f : Framer} {part : List ℕ} → Bytes buffer → Bytes bytes → (k ≡ 0 → ⊥) → Copied (take k bytes) (take (length buffer - (a + n)) (drop (a + n) buffer)) part →
-      HeardSo (n + k) f → Moved h f h' → TakesIn h buffer bytes (record { halves = h'; count = k }) (back (a + n) part buffer)
-  takes_moved {part = part} bb cb some copied heard moved =
+  pub takes_moved : {part : List ℕ} → Bytes buffer → Bytes bytes → (k ≡ 0 → ⊥) → Copied (take k bytes) (take (line_size - (a + n)) (drop (a + n) buffer)) part →
+      TakesIn h buffer bytes (record { halves = moved_of h (record { count = n + k; deaf = false }); count = k }) (take (a + n) buffer ++ (part ++ drop (line_size - (a + n)) (drop (a + n) buffer)))
+  takes_moved {part = part} bb cb some copied =
       let few = inside.few in
       let most = place.most in
       let less = begun.most in
       let size : length (take k bytes) ≡ k = length-take-le k bytes few in
       let fits = inside.inside some in
       let small = inside.small in
-      let room = take (length buffer - (a + n)) (drop (a + n) buffer) in
-      let wide : length room ≡ length buffer - (a + n) = simp (length-take, length-drop) (omega arith) in
-      let there : back (a + n) part buffer ≡ over_at (place_of h.second + n) (take k bytes) buffer =
-      part_over (a + n) (length buffer - (a + n)) (take k bytes) buffer part (omega arith) (omega arith) (copied_over (omega arith) copied) ∙ rw place.is refl in
+      let room = take (line_size - (a + n)) (drop (a + n) buffer) in
+      let wide : length room ≡ line_size - (a + n) = simp (length-take, length-drop) (omega arith) in
+      let there : take (a + n) buffer ++ (part ++ drop (line_size - (a + n)) (drop (a + n) buffer)) ≡ over_at (place_of h.second + n) (take k bytes) buffer =
+      part_over (a + n) (line_size - (a + n)) (take k bytes) buffer part (omega arith) (omega arith) (copied_over (omega arith) copied) ∙ rw place.is refl in
       let m = moved_in bb cb (take k bytes) refl (λ z. some (omega arith)) in
-      rw (there, moved.is, heard.is)
+      rw there
       (taken_in k bytes few (rw size at m.silently) (rw (rw size at m.line) ends_told))

@@ -2,6 +2,7 @@
 use Prim.Native.Nat.{ℕ, zero, suc, ◌+◌, ◌≤◌, ◌<◌}
 use mathlib.Core.Path.{◌≡◌, refl, sym, ap, ◌∙◌}
 use mathlib.Core.Bool.{Bool, true, false}
+use mathlib.Core.Logic.{◌⊎◌, inl, inr}
 use mathlib.Core.List.{List, [], ◌∷◌, ◌++◌}
 use native.Mathlib.Numerals.{add-one}
 use native.Mathlib.Omega.{arith}
@@ -9,17 +10,16 @@ use lib.Dec.{eqb, eqb-suc-zero}
 use lib.ListN.{length, take, set, length-append, length-take}
 use lib.Seq.{take-suc-set}
 use borrow.Author.Tests.{lt-ltb, le-ltb, eq-eqb, ne_eqb}
+use Rattle.std.specs.Prelude.{Result, Ok, Err}
 use Rattle.words.specs.Lists.{pick}
 use Rattle.words.proofs.Lists.{set_over}
 use Rattle.packet.specs.Packet.{check_of}
 use Rattle.packet.specs.Refusals.{number_of}
-use Rattle.packet.specs.Promises.{Number, Check}
+use Rattle.packet.specs.Promises.{Check}
 use Rattle.packet.specs.Sizes.{packet_size}
 use Rattle.packet.specs.declared.Refusal.{Refusal}
-use Rattle.packet.specs.declared.Refusal.TheVariants.{Cut, Room}
+use Rattle.packet.specs.declared.Refusal.TheVariants.{Length, Checksum, Cut, Source, Status, Opcode, Data, Beep, Setting, Barred, Start, Form, Room, Long}
 use Rattle.packet.specs.declared.Head.{Head}
-use Rattle.packet.specs.declared.Checked.{Checked}
-use Rattle.packet.specs.declared.Checked.TheVariants as checked
 use Rattle.packet.proofs.Theorems.{accepted, accepted_head}
 use Rattle.framer.specs.Framer.{hearing, deaf, judged, at_gap, at_byte, framer_step}
 use Rattle.framer.specs.Promises.{begun_of, line_of, control_of, found_of, stored_of, framed_of, line_after, Idle, Deaf, Ended, Begun, Gap, Unfinished, Frames}
@@ -52,12 +52,28 @@ module _ {f : Framer} {r : Framed} where
     pub gap_cut : (n ≡ 0 → ⊥) → Ended (Refused Cut) r → Gap f r
     gap_cut z k = record { is = k.is ∙ simp (e, sym begun.is, ne_eqb n 0 z) }
 
-module _ {r : Refusal} {n count : ℕ} (number : Number r n) where
-  pub unfinished_short : n ≡ 3 → Unfinished r count (record { framer = record { count = count; deaf = false }; found = Nothing })
-  unfinished_short e = record { is = simp (eq-eqb (number_of r) 3 (sym number.is ∙ e)) }
+pub unfinished_short : {r : Refusal} {count : ℕ} → r ≡ Cut → Unfinished r count (record { framer = record { count = count; deaf = false }; found = Nothing })
+unfinished_short e = record { is = rw e refl }
 
-  pub unfinished_deaf : {f : Framer} → (n ≡ 3 → ⊥) → Deaf f → Unfinished r count (record { framer = f; found = Refused r })
-  unfinished_deaf h k = record { is = rw k.is (simp (ne_eqb (number_of r) 3 (λ e. h (number.is ∙ e)))) }
+-- Only too few bytes have number 3.
+other_number : (r : Refusal) → (r ≡ Cut → ⊥) → eqb (number_of r) 3 ≡ false
+other_number Length h = refl
+other_number Checksum h = refl
+other_number Cut h = absurd (h refl)
+other_number Source h = refl
+other_number Status h = refl
+other_number Opcode h = refl
+other_number Data h = refl
+other_number Beep h = refl
+other_number Setting h = refl
+other_number Barred h = refl
+other_number Start h = refl
+other_number Form h = refl
+other_number Room h = refl
+other_number Long h = refl
+
+pub unfinished_deaf : {r : Refusal} {count : ℕ} {f : Framer} → (r ≡ Cut → ⊥) → Deaf f → Unfinished r count (record { framer = f; found = Refused r })
+unfinished_deaf {r} h k = record { is = rw k.is (simp (other_number r h)) }
 
 -- ---- a line buffer that is long enough
 
@@ -81,7 +97,7 @@ line_hearing f line e b = simp (e, sym b.is)
 -- ---- a byte
 
 either_way : (s : List ℕ) (count : ℕ) → length s ≡ count → (x : Refusal) (d : Bool) → eqb (number_of x) 3 ≡ d →
-    ◌≡◌ {A = Framed} (record { framer = control_of (judged s (checked.Refused x)).next; found = found_of (judged s (checked.Refused x)).told })
+    ◌≡◌ {A = Framed} (record { framer = control_of (judged s (Err x)).next; found = found_of (judged s (Err x)).told })
     (pick (eqb (number_of x) 3) (record { framer = record { count = count; deaf = false }; found = Nothing }) (record { framer = record { count = 0; deaf = true }; found = Refused x }))
 unfolding judged found_of
 either_way s count long x true e = simp (e, long)
@@ -99,7 +115,7 @@ module _ (f : Framer) (line : List ℕ) (at b : ℕ) (h : packet_size ≤ length
   pub so_far : take (at + 1) (set line at b) ≡ take at line ++ (b ∷ [])
   so_far = let m = begun.most in rw (add-one at) (take-suc-set line at b (omega arith))
 
-  heard : (r : Checked) → Check (take (at + 1) (set line at b)) r → framer_step (line_of f line) (Byte b) ≡ judged (take at line ++ (b ∷ [])) r
+  heard : (r : Result Head Refusal) → Check (take (at + 1) (set line at b)) r → framer_step (line_of f line) (Byte b) ≡ judged (take at line ++ (b ∷ [])) r
   unfolding framer_step at_byte
   heard r check = rw (line_hearing f line e begun) (rw (check.is, so_far) refl)
 
@@ -107,18 +123,18 @@ module _ (f : Framer) (line : List ℕ) (at b : ℕ) (h : packet_size ≤ length
   unfolding stored_of
   kept = let m = begun.most in set_over line at b (omega arith) ∙ sym (stored f line (Byte b) h ∙ rw (line_hearing f line e begun) refl)
 
-module _ {f : Framer} {line : List ℕ} {at b : ℕ} {r : Checked} (h : packet_size ≤ length line) (e : f.deaf ≡ false) (begun : Begun f at) (check : Check (take (at + 1) (set line at b)) r) where
-  pub byte_packet : {u : Framed} {d : Head} → r ≡ checked.Packet d → Ended (Packet d) u → Frames f line (Byte b) u (set line at b)
+module _ {f : Framer} {line : List ℕ} {at b : ℕ} {r : Result Head Refusal} (h : packet_size ≤ length line) (e : f.deaf ≡ false) (begun : Begun f at) (check : Check (take (at + 1) (set line at b)) r) where
+  pub byte_packet : {u : Framed} {d : Head} → r ≡ Ok d → Ended (Packet d) u → Frames f line (Byte b) u (set line at b)
   unfolding judged found_of
   byte_packet {d = d} q ended =
       let s : List ℕ = take at line ++ (b ∷ []) in
-      let is-packet : check_of s ≡ checked.Packet d = ap check_of (sym (so_far f line at b h e begun)) ∙ (sym check.is ∙ q) in
+      let is-packet : check_of s ≡ Ok d = ap check_of (sym (so_far f line at b h e begun)) ∙ (sym check.is ∙ q) in
       record {
         is = ended.is ∙ sym (enough f line (Byte b) h ∙ rw (heard f line at b h e begun r check, q) (rw (accepted_head (accepted s is-packet)) refl));
         line_is = kept f line at b h e begun;
       }
 
-  pub byte_refused : {x : Refusal} {u : Framed} {count : ℕ} → r ≡ checked.Refused x → count ≡ at + 1 → Unfinished x count u → Frames f line (Byte b) u (set line at b)
+  pub byte_refused : {x : Refusal} {u : Framed} {count : ℕ} → r ≡ Err x → count ≡ at + 1 → Unfinished x count u → Frames f line (Byte b) u (set line at b)
   byte_refused {x} {u} {count} q n unfinished =
       let s : List ℕ = take at line ++ (b ∷ []) in
       let m = begun.most in
@@ -139,7 +155,7 @@ gap_by false zero line h = refl
 gap_by false (suc n) [] h = absurd (omega arith)
 gap_by false (suc n) (x ∷ xs) h = simp (eqb-suc-zero n)
 
-gap_frames : {f : Framer} {line : List ℕ} {r : Framed} → packet_size ≤ length line → Gap f r → Frames f line CharacterGap r line
+pub gap_frames : {f : Framer} {line : List ℕ} {r : Framed} → packet_size ≤ length line → Gap f r → Frames f line CharacterGap r line
 unfolding framer_step line_of stored_of
 gap_frames {f} {line} h g =
     record {
@@ -156,13 +172,11 @@ hear_room {f} {line} {e} h = record { is = simp (lt-ltb (length line) packet_siz
 pub hear_byte : {f : Framer} {line line' : List ℕ} {e : Event} {b : ℕ} {r : Framed} → e ≡ Byte b → Frames f line (Byte b) r line' → Frames f line e r line'
 hear_byte e k = rw e k
 
-pub hear_gap : {f : Framer} {line : List ℕ} {e : Event} {r : Framed} → e ≡ CharacterGap → packet_size ≤ length line → Gap f r → Frames f line e r line
-hear_gap e h g = rw e (gap_frames h g)
-
 -- A message gap is a character gap to the framer.
 same_gap : {f : Framer} {line line' : List ℕ} {r : Framed} → Frames f line CharacterGap r line' → Frames f line MessageGap r line'
 unfolding framed_of line_after framer_step stored_of
 same_gap k = record { is = k.is; line_is = k.line_is }
 
-pub hear_message_gap : {f : Framer} {line : List ℕ} {e : Event} {r : Framed} → e ≡ MessageGap → packet_size ≤ length line → Gap f r → Frames f line e r line
-hear_message_gap e h g = rw e (same_gap (gap_frames h g))
+pub hear_gap : {f : Framer} {line : List ℕ} {e : Event} {r : Framed} → (e ≡ CharacterGap) ⊎ (e ≡ MessageGap) → packet_size ≤ length line → Gap f r → Frames f line e r line
+hear_gap (inl e) h g = rw e (gap_frames h g)
+hear_gap (inr e) h g = rw e (same_gap (gap_frames h g))

@@ -7,16 +7,16 @@ use native.Mathlib.Omega.{arith}
 use lib.Dec.{eqb, ltb}
 use lib.ListN.{length, get_or, take, length-append, length-take, get_or-append}
 use borrow.Author.Tests.{lt-ltb, ltb-true, eqb-true}
+use Rattle.std.specs.Prelude.{Result, Ok, Err}
 use Rattle.words.specs.Lists.{pick, Bytes, over}
 use Rattle.words.specs.Machine.{after, through}
 use Rattle.words.proofs.Lists.{take_over, length_over}
 use Rattle.packet.specs.Packet.{seal, body_in, head_in, check_of}
 use Rattle.packet.specs.Refusals.{number_of}
 use Rattle.packet.specs.Sizes.{packet_size}
+use Rattle.packet.specs.declared.Head.{Head}
 use Rattle.packet.specs.declared.Refusal.{Refusal}
 use Rattle.packet.specs.declared.Refusal.TheVariants.{Cut}
-use Rattle.packet.specs.declared.Checked.{Checked}
-use Rattle.packet.specs.declared.Checked.TheVariants as checked
 use Rattle.packet.proofs.Theorems.{Body, sealed_check, sealed_body, few_cut, turned}
 use Rattle.packet.proofs.Writing.{length_seal}
 use Rattle.framer.specs.Framer.{Line, hearing, deaf, packet, judged, at_gap, at_byte, framer_step}
@@ -33,7 +33,7 @@ abbrev pub bytes_of : List ℕ → List Event
 bytes_of s = map Byte s
 
 -- Sealed bytes alone.
-alone : (b : List ℕ) → Body b → check_of (seal b) ≡ checked.Packet (head_in b)
+alone : (b : List ℕ) → Body b → check_of (seal b) ≡ Ok (head_in b)
 alone b k = ap check_of (sym (append-nil (seal b))) ∙ sym (sealed_check b [] k).is
 
 alone_body : (b : List ℕ) → Body b → body_in (seal b) ≡ b
@@ -44,7 +44,7 @@ unfolding seal
 first_sealed b h = get_or-append b _ 0 0 h
 
 -- A front that is not the whole of it is too short.
-short : (b got rest : List ℕ) (x y : ℕ) → Body b → got ++ (x ∷ y ∷ rest) ≡ seal b → check_of (got ++ (x ∷ [])) ≡ checked.Refused Cut
+short : (b got rest : List ℕ) (x y : ℕ) → Body b → got ++ (x ∷ y ∷ rest) ≡ seal b → check_of (got ++ (x ∷ [])) ≡ Err Cut
 short b got rest x y k e =
     let s : List ℕ = got ++ (x ∷ []) in
     let whole : s ++ (y ∷ rest) ≡ seal b = append_assoc got (x ∷ []) (y ∷ rest) ∙ e in
@@ -95,17 +95,17 @@ view_deaf : (line : List ℕ) → line_of (control_of deaf) line ≡ deaf
 unfolding line_of
 view_deaf line = refl
 
-view_refused : (s line : List ℕ) (x : Refusal) (d : Bool) → eqb (number_of x) 3 ≡ d → check_of s ≡ checked.Refused x → get_or s 0 0 < 256 → length s ≤ packet_size →
-    line_of (control_of (judged s (checked.Refused x)).next) (over s line) ≡ (judged s (checked.Refused x)).next
+view_refused : (s line : List ℕ) (x : Refusal) (d : Bool) → eqb (number_of x) 3 ≡ d → check_of s ≡ Err x → get_or s 0 0 < 256 → length s ≤ packet_size →
+    line_of (control_of (judged s (Err x)).next) (over s line) ≡ (judged s (Err x)).next
 unfolding judged
 view_refused s line x true e f b h = let n = (turned s f).cut (eqb-true (number_of x) 3 e) in simp e (view_hearing s line (omega arith))
 view_refused s line x false e f b h = simp e (view_deaf (over s line))
 
-view_judged : (s line : List ℕ) (r : Checked) → check_of s ≡ r → get_or s 0 0 < 256 → length s ≤ packet_size →
+view_judged : (s line : List ℕ) (r : Result Head Refusal) → check_of s ≡ r → get_or s 0 0 < 256 → length s ≤ packet_size →
     line_of (control_of (judged s r).next) (over s line) ≡ (judged s r).next
 unfolding judged
-view_judged s line (checked.Packet head) f b h = view_idle (over s line)
-view_judged s line (checked.Refused x) f b h = view_refused s line x (eqb (number_of x) 3) refl f b h
+view_judged s line (Ok head) f b h = view_idle (over s line)
+view_judged s line (Err x) f b h = view_refused s line x (eqb (number_of x) 3) refl f b h
 
 -- Fewer bytes are begun than a packet can have.
 abbrev pub Short : Line → Type 0

@@ -22,7 +22,7 @@ use Rattle.framer.proofs.Outcomes.{brings, found_is, view_is, view_idle, told_no
 use Rattle.framer.proofs.Steps.{stored}
 use Rattle.framer.proofs.Theorems.{length_after}
 use Rattle.framer.specs.Promises.{found_of, framed_of, line_after, Idle, Frames}
-use Rattle.framer.specs.Halves.{line_size, place_of, half_of, last_of, line_in, kept_in, accepted_of, received_in, listened_of, buffer_after, IdleHalves, Listens, Received, Kept, Moved, Place, Last}
+use Rattle.framer.specs.Halves.{line_size, place_of, half_of, last_of, line_in, kept_in, accepted_of, received_in, listened_of, buffer_after, IdleHalves, Listens, moved_of, Received, Kept, Place, Last}
 use Rattle.framer.specs.declared.Event.{Event}
 use Rattle.framer.specs.declared.Framer.{Framer}
 use Rattle.framer.specs.declared.Framed.{Framed}
@@ -65,16 +65,16 @@ pub received_none : {h : Halves} {buffer : List ℕ} {n : ℕ} → packet_size <
 unfolding received_in
 received_none {h} {buffer} {n} l = record { is = simp (lt-leb n packet_size l); long = λ z. omega arith }
 
-pub listens : {h h' : Halves} {buffer half : List ℕ} {e : Event} {a : ℕ} {r : Framed} → length buffer ≡ line_size → Place h.second a → Moved h r.framer h' →
+pub listens : {h : Halves} {buffer half : List ℕ} {e : Event} {a : ℕ} {r : Framed} → length buffer ≡ line_size → Place h.second a →
     Frames h.framer (take (a + packet_size - a) (drop a buffer)) e r half →
     Bytes (take a buffer ++ (half ++ drop (a + packet_size - a) (drop a buffer))) →
-    Listens h buffer e (record { halves = h'; found = r.found }) (take a buffer ++ (half ++ drop (a + packet_size - a) (drop a buffer)))
+    Listens h buffer e (record { halves = moved_of h r.framer; found = r.found }) (take a buffer ++ (half ++ drop (a + packet_size - a) (drop a buffer)))
 unfolding listened_of buffer_after half_of
-listens {h} {buffer = buffer} {half} {e} {a} {r} long p m f b =
+listens {h} {buffer = buffer} {half} {e} {a} {r} long p f b =
     let size : a + packet_size - a ≡ packet_size = omega arith in
     let g = rw size at f in
     record {
-      is = rw (m.is, g.is, p.is) refl;
+      is = rw (g.is, p.is) refl;
       buffer_is = rw size (rw (g.line_is, p.is) refl);
       long = long;
       bytes = b;

@@ -1,13 +1,12 @@
 -- §5, the framer: one event at a time.
-use Rattle.std.specs.Prelude.{ℕ, Bool, true, false, List, [], ◌∷◌, ◌++◌, eqb}
+use Rattle.std.specs.Prelude.{ℕ, Bool, true, false, List, [], ◌∷◌, ◌++◌, eqb, Result, Ok, Err}
 use Rattle.words.specs.Lists.{pick}
 use Rattle.words.specs.Machine.{Done}
 use Rattle.packet.specs.Packet.{body_in, check_of}
 use Rattle.packet.specs.Refusals.{number_of}
+use Rattle.packet.specs.declared.Head.{Head}
 use Rattle.packet.specs.declared.Refusal.{Refusal}
 use Rattle.packet.specs.declared.Refusal.TheVariants.{Cut}
-use Rattle.packet.specs.declared.Checked.{Checked}
-use Rattle.packet.specs.declared.Checked.TheVariants as checked
 use Rattle.framer.specs.declared.Event.{Event}
 use Rattle.framer.specs.declared.Event.TheVariants.{Byte, CharacterGap, MessageGap}
 
@@ -33,9 +32,9 @@ abbrev pub says : Line → Heard → Done Line Heard
 says line heard = record { next = line; told = heard ∷ [] }
 
 -- The framer is the packet check on the bytes so far: too few, so it goes on; a packet; or a refusal, after which it is deaf.
-unfoldable pub judged : List ℕ → Checked → Done Line Heard
-judged s (checked.Packet head) = says (hearing []) (packet (body_in s))
-judged s (checked.Refused r) = pick (eqb (number_of r) 3) (quiet (hearing s)) (says deaf (refused r))
+unfoldable pub judged : List ℕ → Result Head Refusal → Done Line Heard
+judged s (Ok head) = says (hearing []) (packet (body_in s))
+judged s (Err r) = pick (eqb (number_of r) 3) (quiet (hearing s)) (says deaf (refused r))
 
 -- A gap with a packet begun and not ended is refusal 3; one with nothing begun gives nothing.
 unfoldable pub at_gap : Line → Done Line Heard

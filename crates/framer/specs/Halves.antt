@@ -1,6 +1,6 @@
 -- The line buffer of an end that remembers its last accepted packet (§8, §11): two halves, each as long as a packet can be. One half
 -- receives, and an accepted packet stays where it was received while the other half takes the next.
-use Rattle.std.specs.Prelude.{ℕ, ◌*◌, ◌≤◌, Bool, true, false, not, List, [], ◌++◌, ◌≡◌, leb, eqb, length, take, drop}
+use Rattle.std.specs.Prelude.{ℕ, ◌*◌, ◌≤◌, Bool, true, false, not, List, [], ◌++◌, ◌≡◌, leb, eqb, length, take, drop, Option, Some, None}
 use Rattle.words.specs.Lists.{pick, Bytes}
 use Rattle.packet.specs.Sizes.{body_size, packet_size}
 use Rattle.framer.specs.Framer.{Line, hearing, silent, framer_step}
@@ -97,9 +97,6 @@ pub record Kept (h : Halves) (buffer r : List ℕ) : Type 0 where
 pub record AcceptsLast (h : Halves) (n : ℕ) (r : Halves) : Type 0 where
   pub is : r ≡ accepted_of h n
 
-pub record Moved (h : Halves) (f : Framer) (r : Halves) : Type 0 where
-  pub is : r ≡ moved_of h f
-
 pub record Place (second : Bool) (r : ℕ) : Type 0 where
   pub is : r ≡ place_of second
   pub most : r ≤ packet_size
@@ -124,7 +121,7 @@ pub data GoesOn (f : Framer) (second : Bool) (buffer : List ℕ) (e : Event) : G
       GoesOn f second buffer e g buffer'
   left : {buffer' : List ℕ} → goes_on f second buffer e ≡ false → buffer' ≡ buffer → GoesOn f second buffer e Left buffer'
 
--- How many bytes are begun with this one behind them; 0 where it was left, for the framer has something to tell of it.
-pub record Inside (f : Framer) (line : List ℕ) (b r : ℕ) (line' : List ℕ) : Type 0 where
-  pub frames : (r ≡ 0 → ⊥) → Frames f line (Byte b) (record { framer = record { count = r; deaf = false }; found = Nothing }) line'
-  pub left : r ≡ 0 → (line' ≡ line) × (silent (framer_step (line_of f line) (Byte b)).told ≡ false)
+-- How many bytes are begun with this one behind them; none where it was left, for the framer has something to tell of it.
+pub record Inside (f : Framer) (line : List ℕ) (b : ℕ) (r : Option ℕ) (line' : List ℕ) : Type 0 where
+  pub frames : {n : ℕ} → r ≡ Some n → Frames f line (Byte b) (record { framer = record { count = n; deaf = false }; found = Nothing }) line'
+  pub left : r ≡ None → (line' ≡ line) × (silent (framer_step (line_of f line) (Byte b)).told ≡ false)

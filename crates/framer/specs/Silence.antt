@@ -1,12 +1,11 @@
 -- §22: many bytes at once, as far as the framer tells nothing of them.
-use Rattle.std.specs.Prelude.{ℕ, suc, ◌+◌, ◌≤◌, ◌<◌, false, List, [], ◌∷◌, map, ◌≡◌, eqb, length, get_or, take}
+use Rattle.std.specs.Prelude.{ℕ, suc, ◌+◌, ◌≤◌, ◌<◌, List, [], ◌∷◌, map, ◌≡◌, eqb, length, get_or, take}
 use Rattle.words.specs.Lists.{pick}
 use Rattle.words.specs.Machine.{Done, through}
 use Rattle.framer.specs.Framer.{Line, Heard, silent, framer_step}
 use Rattle.framer.specs.Halves.{line_in, kept_in, listened_of, buffer_after}
 use Rattle.framer.specs.declared.Event.{Event}
 use Rattle.framer.specs.declared.Event.TheVariants.{Byte}
-use Rattle.framer.specs.declared.Framer.{Framer}
 use Rattle.framer.specs.declared.Halves.{Halves}
 use Rattle.framer.specs.declared.TakenIn.{TakenIn}
 
@@ -36,9 +35,6 @@ pub record TakesIn (h : Halves) (buffer bytes : List ℕ) (r : TakenIn) (buffer'
   pub stands : through listen_step (record { halves = h; buffer = buffer }) (map Byte (take r.count bytes)) ≡ record { next = record { halves = r.halves; buffer = buffer' }; told = [] }
   pub line : through framer_step (line_in h buffer) (map Byte (take r.count bytes)) ≡ record { next = line_in r.halves buffer'; told = [] }
   pub kept : kept_in r.halves buffer' ≡ kept_in h buffer
-
-pub record HeardSo (count : ℕ) (r : Framer) : Type 0 where
-  pub is : r ≡ record { count = count; deaf = false }
 
 -- The length byte of a packet of which n bytes stand in the line and these come.
 abbrev pub length_of : ℕ → List ℕ → List ℕ → ℕ

@@ -3,11 +3,11 @@
 
 ghost use Rattle.std.specs.Prelude.{◌≤◌, ◌<◌, false, ◌≡◌, length};
 ghost use Rattle.packet.specs.Sizes.{packet_size};
-ghost use Rattle.framer.specs.Halves.{line_size, IdleHalves, Moved, Listens, Received, Kept, AcceptsLast, Place, Last, GoesOn, Inside};
-ghost use Rattle.framer.specs.Silence.{TakesIn, HeardSo, LengthOf, InsideOf};
+ghost use Rattle.framer.specs.Halves.{IdleHalves, Listens, Received, Kept, AcceptsLast, Place, Last, GoesOn, Inside};
+ghost use Rattle.framer.specs.Silence.{TakesIn, LengthOf, InsideOf};
 ghost use Rattle.framer.specs.Promises.{begun_of, Idle, Deaf, Ended, Begun, Gap, Unfinished, Frames};
 
-use packet::{CHECKSUM_SIZE, Checked, HEAD_SIZE, Head, PACKET_SIZE, Refusal};
+use packet::{CHECKSUM_SIZE, HEAD_SIZE, Head, PACKET_SIZE, Refusal};
 
 // Room for two packets: one half receives, the last accepted packet stays in the other.
 pub const LINE_SIZE: usize = 2 * PACKET_SIZE;
@@ -23,6 +23,7 @@ pub enum Event {
 }
 
 // Whether all bytes are ignored until the next gap, and how many bytes of the packet begun stand in the line buffer.
+// stays two fields: an exported control value keeps each of its bytes, also one that no run leaves.
 #[derive(Clone, Copy)]
 pub struct Framer {
     pub deaf: bool,
@@ -30,6 +31,7 @@ pub struct Framer {
 }
 
 // What an event ended: nothing, a packet that stands at the front of the line buffer, or a refusal.
+// stays an enum: three cases, as a Result in an Option they would be no plainer.
 #[derive(Clone, Copy)]
 pub enum Found {
     Nothing,
@@ -75,8 +77,7 @@ pub fn hear(framer: Framer, line: &mut [u8], event: Event) -> Framed
     }
     match event {
         Event::Byte(b) => byte(framer, line, b),
-        Event::CharacterGap => gap(framer),
-        Event::MessageGap => gap(framer),
+        Event::CharacterGap | Event::MessageGap => gap(framer),
     }
 }
 
@@ -94,10 +95,7 @@ fn begun(framer: Framer) -> usize
 fn gap(framer: Framer) -> Framed
     ensures { Gap framer result }
 {
-    if framer.deaf {
-        return ended(Found::Nothing);
-    }
-    if begun(framer) == 0 {
+    if framer.deaf || begun(framer) == 0 {
         return ended(Found::Nothing);
     }
     ended(Found::Refused(Refusal::Cut))
@@ -128,8 +126,8 @@ fn byte(framer: Framer, line: &mut [u8], b: u8) -> Framed
     line[at] = b;
     let count = at + 1;
     match packet::check(&line[..count]) {
-        Checked::Packet(head) => ended(Found::Packet(head)),
-        Checked::Refused(refusal) => unfinished(refusal, count),
+        Ok(head) => ended(Found::Packet(head)),
+        Err(refusal) => unfinished(refusal, count),
     }
 }
 
@@ -137,19 +135,20 @@ fn byte(framer: Framer, line: &mut [u8], b: u8) -> Framed
 fn unfinished(refusal: Refusal, count: usize) -> Framed
     ensures { Unfinished refusal count result }
 {
-    if packet::number(refusal) == 3 {
-        return Framed {
+    match refusal {
+        Refusal::Cut => Framed {
             framer: Framer { count, deaf: false },
             found: Found::Nothing,
-        };
-    }
-    Framed {
-        framer: deaf(),
-        found: Found::Refused(refusal),
+        },
+        _ => Framed {
+            framer: deaf(),
+            found: Found::Refused(refusal),
+        },
     }
 }
 
 // A framer over two halves of a line buffer: which half receives, and how long the last accepted packet in the other is.
+// stays a length, 0 for none: an exported control value keeps each of its bytes.
 #[derive(Clone, Copy)]
 pub struct Halves {
     pub framer: Framer,
@@ -178,37 +177,18 @@ pub fn idle_halves() -> Halves
 pub fn listen(halves: Halves, buffer: &mut [u8; LINE_SIZE], event: Event) -> Listened
     ensures { Listens halves buffer.old event result buffer.new }
 {
-    listen_in(halves, buffer, event)
-}
-
-fn listen_in(halves: Halves, buffer: &mut [u8], event: Event) -> Listened
-    requires { length buffer.old ≡ line_size }
-    ensures { Listens halves buffer.old event result buffer.new }
-{
     let from = place(halves.second);
-    let end = from + PACKET_SIZE;
-    let before = halves.framer;
-    let framed = hear(before, &mut buffer[from..end], event);
-    let framer = framed.framer;
-    let found = framed.found;
+    // Lent as a slice: what comes back is then known to be bytes.
+    let whole = &mut buffer[..];
+    let Framed { framer, found } = hear(halves.framer, &mut whole[from..from + PACKET_SIZE], event);
     Listened {
-        halves: moved(halves, framer),
+        halves: Halves { framer, ..halves },
         found,
     }
 }
 
-// The framer's control value is now this one.
-fn moved(halves: Halves, framer: Framer) -> Halves
-    ensures { Moved halves framer result }
-{
-    Halves {
-        framer,
-        second: halves.second,
-        last: halves.last,
-    }
-}
-
 // What the short way did with an event.
+// stays an enum: three cases, in an Option one of them would need a number of its own.
 #[derive(Clone, Copy)]
 pub enum Going {
     // so many bytes are begun now; deaf or not, the framer is as it was
@@ -227,29 +207,27 @@ pub fn go_on(framer: Framer, second: bool, buffer: &mut [u8; LINE_SIZE], event: 
 {
     match event {
         Event::Byte(b) => carry(framer, second, buffer, b),
-        Event::CharacterGap => pause(framer, second, &buffer[..]),
+        Event::CharacterGap => pause(framer, second, buffer),
         Event::MessageGap => Going::Left,
     }
 }
 
-fn carry(framer: Framer, second: bool, buffer: &mut [u8], b: u8) -> Going
-    requires { length buffer.old ≡ line_size }
+fn carry(framer: Framer, second: bool, buffer: &mut [u8; LINE_SIZE], b: u8) -> Going
     ensures { GoesOn framer second buffer.old (Event.Byte b) result buffer.new }
 {
     if framer.deaf {
         return Going::On(0);
     }
     let from = place(second);
-    let end = from + PACKET_SIZE;
-    let count = inside(framer, &mut buffer[from..end], b);
-    if count == 0 {
-        return Going::Left;
+    let whole = &mut buffer[..];
+    match inside(framer, &mut whole[from..from + PACKET_SIZE], b) {
+        Some(count) => Going::On(count),
+        None => Going::Left,
     }
-    Going::On(count)
 }
 
-// A byte that ends no packet goes behind those before it: how many there are then. One that ends it, or is too low a length, is left: 0.
-fn inside(framer: Framer, line: &mut [u8], b: u8) -> usize
+// A byte that ends no packet goes behind those before it: how many there are then. One that ends it, or is too low a length, is left.
+fn inside(framer: Framer, line: &mut [u8], b: u8) -> Option<usize>
     requires { (packet_size ≤ length line.old) × (framer.deaf ≡ false) }
     ensures { Inside framer line.old b result line.new }
 {
@@ -257,35 +235,35 @@ fn inside(framer: Framer, line: &mut [u8], b: u8) -> usize
     if n == 0 {
         return first(framer, line, b);
     }
-    let length = words::wide(line[0]);
+    let length = usize::from(line[0]);
     if n <= length {
         if length < HEAD_SIZE {
-            return 0;
+            return None;
         }
         line[n] = b;
-        return n + 1;
+        return Some(n + 1);
     }
+    // A count that the line buffer cannot have is 0. It is tested last: `begun` before the length costs each byte an instruction or two.
     if n < PACKET_SIZE {
-        return 0;
+        return None;
     }
     first(framer, line, b)
 }
 
 // The first byte of a packet is its length.
-fn first(framer: Framer, line: &mut [u8], b: u8) -> usize
+fn first(framer: Framer, line: &mut [u8], b: u8) -> Option<usize>
     requires { (packet_size ≤ length line.old) × (framer.deaf ≡ false) × (begun_of framer ≡ 0) }
     ensures { Inside framer line.old b result line.new }
 {
-    if words::wide(b) < HEAD_SIZE {
-        return 0;
+    if usize::from(b) < HEAD_SIZE {
+        return None;
     }
     line[0] = b;
-    1
+    Some(1)
 }
 
 // A gap with nothing begun.
-fn pause(framer: Framer, second: bool, buffer: &[u8]) -> Going
-    requires { length buffer.now ≡ line_size }
+fn pause(framer: Framer, second: bool, buffer: &[u8; LINE_SIZE]) -> Going
     ensures { GoesOn framer second buffer.now Event.CharacterGap result buffer.now }
 {
     if framer.deaf {
@@ -310,41 +288,35 @@ pub struct TakenIn {
 pub fn take_in(halves: Halves, buffer: &mut [u8; LINE_SIZE], bytes: &[u8]) -> TakenIn
     ensures { TakesIn halves buffer.old bytes.now result buffer.new }
 {
-    take_in_half(halves, buffer, bytes)
-}
-
-fn take_in_half(halves: Halves, buffer: &mut [u8], bytes: &[u8]) -> TakenIn
-    requires { length buffer.old ≡ line_size }
-    ensures { TakesIn halves buffer.old bytes.now result buffer.new }
-{
     if bytes.len() == 0 {
         return TakenIn { halves, count: 0 };
     }
-    let framer = halves.framer;
-    if framer.deaf {
+    if halves.framer.deaf {
         return TakenIn {
-            halves: moved(halves, deaf()),
+            halves: Halves {
+                framer: deaf(),
+                ..halves
+            },
             count: bytes.len(),
         };
     }
     let from = place(halves.second);
-    let n = begun(framer);
+    let n = begun(halves.framer);
     let count = inside_of(n, &buffer[from..], bytes);
     if count == 0 {
         return TakenIn { halves, count };
     }
     words::copy(&bytes[..count], &mut buffer[from + n..]);
     TakenIn {
-        halves: moved(halves, heard(n + count)),
+        halves: Halves {
+            framer: Framer {
+                deaf: false,
+                count: n + count,
+            },
+            ..halves
+        },
         count,
     }
-}
-
-// So many bytes are begun.
-fn heard(count: usize) -> Framer
-    ensures { HeardSo count result }
-{
-    Framer { count, deaf: false }
 }
 
 // How many of these bytes go inside the packet of which n bytes stand in the line, its last byte not among them.
@@ -353,17 +325,10 @@ fn inside_of(n: usize, line: &[u8], bytes: &[u8]) -> usize
     ensures { InsideOf n line.now bytes.now result }
 {
     let length = length_of(n, line, bytes);
-    if length < HEAD_SIZE {
+    if length < n || length < HEAD_SIZE {
         return 0;
     }
-    if length < n {
-        return 0;
-    }
-    let most = length + 1 - n;
-    if most < bytes.len() {
-        return most;
-    }
-    bytes.len()
+    bytes.len().min(length + 1 - n)
 }
 
 // The first byte of a packet is its length: it stands in the line, or is the first to come.
@@ -372,22 +337,20 @@ fn length_of(n: usize, line: &[u8], bytes: &[u8]) -> usize
     ensures { LengthOf n line.now bytes.now result }
 {
     if n == 0 {
-        return words::wide(bytes[0]);
+        return usize::from(bytes[0]);
     }
-    words::wide(line[0])
+    usize::from(line[0])
 }
 
 // The first n bytes of the half that receives.
 pub fn received(halves: Halves, buffer: &[u8; LINE_SIZE], n: usize) -> &[u8]
     ensures { Received halves buffer.now n result.now }
 {
-    let from = place(halves.second);
-    let whole = &buffer[..];
-    if n <= PACKET_SIZE {
-        let end = from + n;
-        return &whole[from..end];
+    if n > PACKET_SIZE {
+        return &[];
     }
-    &whole[..0]
+    let from = place(halves.second);
+    &buffer[from..from + n]
 }
 
 // The last accepted packet.
@@ -395,20 +358,17 @@ pub fn kept(halves: Halves, buffer: &[u8; LINE_SIZE]) -> &[u8]
     ensures { Kept halves buffer.now result.now }
 {
     let from = place(!halves.second);
-    let end = from + last(halves);
-    let whole = &buffer[..];
-    &whole[from..end]
+    &buffer[from..from + last(halves)]
 }
 
 // A packet of n bytes is accepted: it stays, and the other half receives.
 pub fn accept(halves: Halves, n: usize) -> Halves
     ensures { AcceptsLast halves n result }
 {
-    let framer = halves.framer;
     Halves {
-        framer,
         second: !halves.second,
         last: n,
+        ..halves
     }
 }
 

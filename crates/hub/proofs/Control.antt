@@ -7,6 +7,7 @@ use native.Mathlib.Omega.{arith}
 use lib.Dec.{eqb}
 use lib.ListN.{length}
 use borrow.Author.Tests.{le-leb, lt-leb}
+use Rattle.std.specs.Prelude.{Result, Ok, Err}
 use Rattle.words.specs.Lists.{over, Each, none, one}
 use Rattle.words.specs.Machine.{given}
 use Rattle.words.proofs.Lists.{never}
@@ -18,8 +19,6 @@ use Rattle.packet.specs.Sizes.{message_size}
 use Rattle.packet.specs.declared.Refusal.{Refusal}
 use Rattle.packet.specs.declared.Refusal.TheVariants as refusal
 use Rattle.packet.specs.declared.Reply.TheVariants.{Ack}
-use Rattle.packet.specs.declared.Built.{Built}
-use Rattle.packet.specs.declared.Built.TheVariants.{Written, Refused}
 use Rattle.packet.proofs.Writing.{reply_written, reply_never, nak_length, nak_never}
 use Rattle.framer.specs.Halves.{IdleHalves, AcceptsLast}
 use Rattle.framer.specs.declared.Halves.{Halves}
@@ -76,15 +75,15 @@ module _ {h : Halves} {n : ℕ} {joined : Joined} {a : Bool} {r : Stepped} (p : 
 -- ---- what goes out
 
 -- With room enough ACK and NAK are never refused.
-pub acknowledges : {room room' : List ℕ} {r : Built} {n : ℕ} → hub_answer_size ≤ length room → Answer room host Ack r room' → SizeOf r n → Writes (seal (reply_body host Ack)) room n room'
+pub acknowledges : {room room' : List ℕ} {r : Result ℕ Refusal} {n : ℕ} → hub_answer_size ≤ length room → Answer room host Ack r room' → SizeOf r n → Writes (seal (reply_body host Ack)) room n room'
 unfolding source_allowed
-acknowledges {r = Written m} h k c = let w = reply_written refl h k refl in record { is = c.is ∙ w.0; answer_is = w.1 }
-acknowledges {r = Refused x} h k c = absurd (reply_never refl h k refl)
+acknowledges {r = Ok m} h k c = let w = reply_written refl h k refl in record { is = c.is ∙ w.0; answer_is = w.1 }
+acknowledges {r = Err x} h k c = absurd (reply_never refl h k refl)
 
-pub refuses_nak : {room room' : List ℕ} {x : Refusal} {r : Built} {n : ℕ} → hub_answer_size ≤ length room → Naks room host x r room' → SizeOf r n → Writes (nak_bytes host x) room n room'
+pub refuses_nak : {room room' : List ℕ} {x : Refusal} {r : Result ℕ Refusal} {n : ℕ} → hub_answer_size ≤ length room → Naks room host x r room' → SizeOf r n → Writes (nak_bytes host x) room n room'
 unfolding source_allowed
-refuses_nak {r = Written m} h k c = let w = nak_length refl h k refl in record { is = c.is ∙ w.0; answer_is = w.1 }
-refuses_nak {r = Refused x} h k c = absurd (nak_never refl h k refl)
+refuses_nak {r = Ok m} h k c = let w = nak_length refl h k refl in record { is = c.is ∙ w.0; answer_is = w.1 }
+refuses_nak {r = Err x} h k c = absurd (nak_never refl h k refl)
 
 pub replies_nothing : {t : Told} {room : List ℕ} → t ≡ told.Nothing → Writes (name_bytes t) room 0 room
 unfolding over

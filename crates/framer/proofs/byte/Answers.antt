@@ -14,8 +14,8 @@ slice_bounds-check-end c = simp length-set (omega arith)
 pub slice_bounds-check-end-2 : goal.slice_bounds-check-end-2
 slice_bounds-check-end-2 c = simp (length-take, length-set) (omega arith)
 
-pub returns-in-Packet : goal.returns-in-Packet
-returns-in-Packet c = byte_packet (omega arith) c.if-framer.false c.begun-at.ensures c.check.ensures c.in-Packet.is c.ended.ensures
+pub returns-in-Ok : goal.returns-in-Ok
+returns-in-Ok c = byte_packet (omega arith) c.if-framer.false c.begun-at.ensures c.check.ensures c.in-Ok.is c.ended.ensures
 
-pub returns-in-Refused : goal.returns-in-Refused
-returns-in-Refused c = byte_refused (omega arith) c.if-framer.false c.begun-at.ensures c.check.ensures c.in-Refused.is refl c.unfinished.ensures
+pub returns-in-Err : goal.returns-in-Err
+returns-in-Err c = byte_refused (omega arith) c.if-framer.false c.begun-at.ensures c.check.ensures c.in-Err.is refl c.unfinished.ensures

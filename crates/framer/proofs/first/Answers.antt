@@ -5,8 +5,8 @@ use Rattle.framer.proofs.Quick.{first_comes, inside_low, inside_stored}
 use borrow.Author.Rules.{rules}
 use Rattle.framer.proofs.first.Goals as goal
 
-pub returns-then-wide-lt-HEAD_SIZE : goal.returns-then-wide-lt-HEAD_SIZE
-returns-then-wide-lt-HEAD_SIZE c = inside_low (search rules) (search rules) (record { is = sym c.requires.2; most = omega arith }) (first_comes c.wide.ensures) c.if-wide-lt-HEAD_SIZE.true
+pub returns-then-from-lt-HEAD_SIZE : goal.returns-then-from-lt-HEAD_SIZE
+returns-then-from-lt-HEAD_SIZE c = inside_low (search rules) (search rules) (record { is = sym c.requires.2; most = omega arith }) (first_comes c.from.ensures) (omega arith)
 
 pub returns : goal.returns
-returns c = inside_stored (search rules) (search rules) (record { is = sym c.requires.2; most = omega arith }) (first_comes c.wide.ensures) (omega arith) (omega arith)
+returns c = inside_stored (search rules) (search rules) (record { is = sym c.requires.2; most = omega arith }) (first_comes c.from.ensures) (omega arith) (omega arith)

@@ -1,6 +1,6 @@
 -- `framer::hear` meets its contract: 13, then the event. Assumes nothing.
 use native.Mathlib.Omega.{arith}
-use Rattle.framer.proofs.Steps.{hear_room, hear_byte, hear_gap, hear_message_gap}
+use Rattle.framer.proofs.Steps.{hear_room, hear_byte, hear_gap}
 use Rattle.framer.proofs.hear.Goals as goal
 
 pub returns-then-line-lt-PACKET_SIZE : goal.returns-then-line-lt-PACKET_SIZE
@@ -11,6 +11,3 @@ returns-in-Byte c = hear_byte c.in-Byte.is c.byte.ensures
 
 pub returns-in-CharacterGap : goal.returns-in-CharacterGap
 returns-in-CharacterGap c = hear_gap c.in-CharacterGap.is (omega arith) c.gap.ensures
-
-pub returns-in-MessageGap : goal.returns-in-MessageGap
-returns-in-MessageGap c = hear_message_gap c.in-MessageGap.is (omega arith) c.gap-in-MessageGap.ensures

@@ -9,13 +9,13 @@ pub first-requires : goal.first-requires
 first-requires c = (search rules, search rules, begun_zero c.args.framer c.if-n-eq0.true)
 
 pub returns-then-length-lt-HEAD_SIZE : goal.returns-then-length-lt-HEAD_SIZE
-returns-then-length-lt-HEAD_SIZE c = inside_low (search rules) (search rules) (begun_count (omega (arith, c.slice_known-2-1.given 0, c.wide-length.ensures.is))) (first_stands (search rules) c.if-n-eq0.false c.wide-length.ensures) c.if-length-lt-HEAD_SIZE.true
+returns-then-length-lt-HEAD_SIZE c = inside_low (search rules) (search rules) (begun_count (omega (arith, c.type_inv.line 0))) (first_stands (search rules) c.if-n-eq0.false c.from-length.ensures) c.if-length-lt-HEAD_SIZE.true
 
 pub returns-then-n-length : goal.returns-then-n-length
-returns-then-n-length c = inside_stored (search rules) (search rules) (begun_count (omega (arith, c.slice_known-2-1.given 0, c.wide-length.ensures.is))) (first_stands (search rules) c.if-n-eq0.false c.wide-length.ensures) (omega arith) (omega arith)
+returns-then-n-length c = inside_stored (search rules) (search rules) (begun_count (search rules)) (first_stands (search rules) c.if-n-eq0.false c.from-length.ensures) (omega arith) (omega arith)
 
 pub returns-then-n-lt-PACKET_SIZE : goal.returns-then-n-lt-PACKET_SIZE
-returns-then-n-lt-PACKET_SIZE c = inside_past (search rules) (search rules) (begun_count (omega arith)) (first_stands (search rules) c.if-n-eq0.false c.wide-length.ensures) (omega arith)
+returns-then-n-lt-PACKET_SIZE c = inside_past (search rules) (search rules) (begun_count (omega arith)) (first_stands (search rules) c.if-n-eq0.false c.from-length.ensures) (omega arith)
 
 pub first-requires-2 : goal.first-requires-2
 first-requires-2 c = (search rules, search rules, begun_over c.args.framer (omega arith))

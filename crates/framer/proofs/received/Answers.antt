@@ -4,8 +4,8 @@ use Rattle.framer.proofs.TwoHalves.{received_is, received_none}
 use borrow.Author.Rules.{rules}
 use Rattle.framer.proofs.received.Goals as goal
 
-pub returns-then-n-le-PACKET_SIZE : goal.returns-then-n-le-PACKET_SIZE
-returns-then-n-le-PACKET_SIZE c = received_is (search rules) c.place-from.ensures (omega arith)
+pub returns-then-n-gt-PACKET_SIZE : goal.returns-then-n-gt-PACKET_SIZE
+returns-then-n-gt-PACKET_SIZE c = received_none (omega arith)
 
 pub returns : goal.returns
-returns c = received_none (omega arith)
+returns c = received_is (search rules) c.place-from.ensures (omega arith)

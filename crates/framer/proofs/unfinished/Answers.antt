@@ -2,8 +2,8 @@
 use Rattle.framer.proofs.Steps.{unfinished_short, unfinished_deaf}
 use Rattle.framer.proofs.unfinished.Goals as goal
 
-pub returns-then-number-eq3 : goal.returns-then-number-eq3
-returns-then-number-eq3 c = unfinished_short c.number.ensures c.if-number-eq3.true
+pub returns-in-Cut : goal.returns-in-Cut
+returns-in-Cut c = unfinished_short c.in-Cut.is
 
-pub returns : goal.returns
-returns c = unfinished_deaf c.number.ensures c.if-number-eq3.false c.deaf.ensures
+pub returns-in_default : goal.returns-in_default
+returns-in_default c = unfinished_deaf c.in_default.not-Cut c.deaf.ensures
