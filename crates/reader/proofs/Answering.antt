@@ -18,30 +18,26 @@ use Rattle.packet.specs.Refusals.{cause_of, nak_bytes}
 use Rattle.packet.specs.Sizes.{data_size, packet_size, answer_size}
 use Rattle.packet.specs.declared.Refusal.{Refusal}
 use Rattle.packet.specs.declared.Reply.TheVariants.{Ack, Nak}
-use Rattle.packet.specs.declared.Built.{Built}
-use Rattle.packet.specs.declared.Built.TheVariants as built
+use Rattle.std.proofs.Common.{Result, Ok, Err}
 use Rattle.packet.proofs.Writing.{length_body, length_seal, enough, sealed_around, reply_written, reply_never, nak_length, nak_never}
-use Rattle.framer.specs.Halves.{IdleHalves, AcceptsLast}
+use Rattle.framer.specs.Halves.{AcceptsLast}
 use Rattle.framer.specs.declared.Halves.{Halves}
 use Rattle.sender.specs.Sender.{Sent, sender_step}
 use Rattle.sender.specs.Promises as sending
 use Rattle.sender.specs.declared.Heard.{Heard}
-use Rattle.sender.specs.declared.Sender.{Sender}
 use Rattle.sender.specs.declared.Sending.{Sending}
 use Rattle.table.specs.Rows.{pairs_size}
 use Rattle.table.specs.Table.{answer_data}
-use Rattle.table.specs.Promises.{values_of, Answers, PowerUp, Value}
+use Rattle.table.specs.Promises.{values_of, Answers, Value}
 use Rattle.table.specs.declared.Table.{Table}
-use Rattle.table.specs.declared.Written.{Written}
-use Rattle.table.specs.declared.Written.TheVariants as given
 use Rattle.table.proofs.Theorems.{answered_most}
 use Rattle.commands.specs.Promises.{device_of}
 use Rattle.commands.specs.declared.Command.{Command}
 use Rattle.commands.specs.declared.Command.TheVariants as command
-use Rattle.commands.specs.declared.Beep.{Beep}
+use Rattle.commands.specs.declared.Acted.{Acted}
 use Rattle.commands.specs.declared.Device.{Device}
 use Rattle.reader.specs.Reader.{CoreState, Output, refused, answered, sent, reader_answer_size, handshake, if_handshake, request_bytes, refuses, no_packet_step, is_request, answer_to, sender_hears}
-use Rattle.reader.specs.Promises.{told_of, answer_of, sent_of, last_answer_of, core_of, sender_hearing, heeded, SwitchedOn, Steps, SoundCore, Handshake, Writes, CoreWith, ReaderOf, StepOf, SentBy, Accepts, Joined, Filled, Leaves, ToSender, Again, Acts, Settles}
+use Rattle.reader.specs.Promises.{told_of, answer_of, sent_of, last_answer_of, core_of, sender_hearing, heeded, reader_of, Steps, SoundCore, Handshake, Writes, StepOf, Accepts, Leaves, ToSender, Again, Acts, Settles}
 use Rattle.reader.specs.declared.Told.{Told}
 use Rattle.reader.specs.declared.Told.TheVariants as told
 use Rattle.reader.specs.declared.Core.{Core}
@@ -51,32 +47,25 @@ use Rattle.reader.specs.declared.Taken.{Taken}
 
 -- ---- the control value
 
-pub switched : {t t' : Table} {h : Halves} {s : Sender} {c : Core} {r : Reader} → PowerUp t t' → IdleHalves h → sending.Idle false s →
-    CoreWith 0 (record { table = t'; switches = record { scanning = true; session = false; aim = false; led = false } }) s c → ReaderOf h c r → SwitchedOn t r
-switched p h s c r = record { is = r.is ∙ rw (c.is, h.is, p.is, s.is) refl }
-
-pub sent_by_lem : {reader r : Reader} {s : Sending} {c : Core} → CoreWith reader.last_answer reader.device s.sender c → ReaderOf reader.line c r →
-    SentBy reader s (record { reader = r; outcome = s.outcome })
-sent_by_lem c r = record { is = rw (r.is, c.is) refl }
-
-pub joins : {h : Halves} {s : Stepped} {r : Reader} → ReaderOf h s.core r → Joined h s (record { reader = r; told = s.told; answer = s.answer; outcome = s.outcome })
-joins r = record { is = rw r.is refl }
-
-module _ {reader : Reader} {answers : List ℕ} {r : Core} (l : length answers ≡ reader_answer_size) where
-  pub core_kept : reader.last_answer ≤ length answers → CoreWith reader.last_answer reader.device reader.sender r → SoundCore reader answers r
+module _ {reader : Reader} {answers : List ℕ} (l : length answers ≡ reader_answer_size) where
+  pub core_kept : reader.last_answer ≤ length answers → SoundCore reader answers (record { last_answer = reader.last_answer; device = reader.device; sender = reader.sender })
   unfolding last_answer_of
-  core_kept h k = record { is = k.is ∙ simp (le-leb reader.last_answer reader_answer_size (omega arith)); long = l; few = rw k.is h }
+  core_kept h = record { is = simp (le-leb reader.last_answer reader_answer_size (omega arith)); long = l; few = h }
 
-  pub core_none : length answers < reader.last_answer → CoreWith 0 reader.device reader.sender r → SoundCore reader answers r
+  pub core_none : length answers < reader.last_answer → SoundCore reader answers (record { last_answer = 0; device = reader.device; sender = reader.sender })
   unfolding last_answer_of
-  core_none h k = record { is = k.is ∙ simp (lt-leb reader.last_answer reader_answer_size (omega arith)); long = l; few = rw k.is (omega arith) }
+  core_none h = record { is = simp (lt-leb reader.last_answer reader_answer_size (omega arith)); long = l; few = omega arith }
 
-module _ {h : Halves} {n : ℕ} {s : Stepped} {a : Bool} {r : Taken} (p : Accepts s.told a) where
-  pub settles_accepted : {h' : Halves} → a ≡ true → AcceptsLast h n h' → Joined h' s r → Settles h n s r
-  settles_accepted e k j = record { is = j.is ∙ simp (k.is, sym p.is ∙ e) }
+-- The control value after an event, with this line.
+abbrev placed : Halves → Stepped → Taken
+placed line s = record { reader = reader_of line s.core; told = s.told; answer = s.answer; outcome = s.outcome }
 
-  pub settles_other : a ≡ false → Joined h s r → Settles h n s r
-  settles_other e j = record { is = j.is ∙ simp (sym p.is ∙ e) }
+module _ {h line : Halves} {n : ℕ} {s : Stepped} {a : Bool} (p : Accepts s.told a) where
+  pub settles_accepted : {h' : Halves} → a ≡ true → AcceptsLast h n h' → line ≡ h' → Settles h n s (placed line s)
+  settles_accepted e k l = record { is = simp (l, k.is, sym p.is ∙ e) }
+
+  pub settles_other : a ≡ false → line ≡ h → Settles h n s (placed line s)
+  settles_other e l = record { is = simp (l, sym p.is ∙ e) }
 
 -- ---- ACK and NAK
 
@@ -88,10 +77,10 @@ writes_nothing : (room : List ℕ) → Writes [] room 0 room
 writes_nothing room = record { is = refl; most = omega arith; answer_is = sym (over_nil room) }
 
 -- With that room what is built is never refused, and its size is that of the bytes.
-ack_writes : {room room' : List ℕ} {n : ℕ} (b : Built) → answer_size ≤ length room → Answer room reader Ack b room' → SizeOf b n → Writes (seal (reply_body reader Ack)) room n room'
+ack_writes : {room room' : List ℕ} {n : ℕ} (b : Result ℕ Refusal) → answer_size ≤ length room → Answer room reader Ack b room' → SizeOf b n → Writes (seal (reply_body reader Ack)) room n room'
 unfolding source_allowed seal reply_body reply_opcode reply_data body_of
-ack_writes (built.Written m) h k z = let w = reply_written refl h k refl in let i = z.is in let l = w.0 in record { is = i ∙ l; most = omega arith; answer_is = w.1 }
-ack_writes (built.Refused x) h k z = absurd (reply_never refl h k refl)
+ack_writes (Ok m) h k z = let w = reply_written refl h k refl in let i = z.is in let l = w.0 in record { is = i ∙ l; most = omega arith; answer_is = w.1 }
+ack_writes (Err x) h k z = absurd (reply_never refl h k refl)
 
 nak_few : (x : Refusal) (b : Bool) → length (pick b [] (seal (reply_body reader (Nak (cause_of x))))) ≤ answer_size
 unfolding seal reply_body reply_opcode reply_data body_of
@@ -102,15 +91,15 @@ nak_most : (x : Refusal) → length (nak_bytes reader x) ≤ answer_size
 unfolding nak_bytes
 nak_most x = nak_few x (eqb (cause_of x) 0)
 
-nak_writes : {room room' : List ℕ} {x : Refusal} {n : ℕ} (b : Built) → answer_size ≤ length room → Naks room reader x b room' → SizeOf b n → Writes (nak_bytes reader x) room n room'
+nak_writes : {room room' : List ℕ} {x : Refusal} {n : ℕ} (b : Result ℕ Refusal) → answer_size ≤ length room → Naks room reader x b room' → SizeOf b n → Writes (nak_bytes reader x) room n room'
 unfolding source_allowed
-nak_writes {x = x} (built.Written m) h k z =
+nak_writes {x = x} (Ok m) h k z =
     let w = nak_length refl h k refl in
     let i = z.is in
     let l = w.0 in
     let f = nak_most x in
     record { is = i ∙ l; most = omega arith; answer_is = w.1 }
-nak_writes (built.Refused y) h k z = absurd (nak_never refl h k refl)
+nak_writes (Err y) h k z = absurd (nak_never refl h k refl)
 
 module _ {d : Device} {room : List ℕ} {a : Bool} (p : Handshake d a) where
   shaken : {bytes room' : List ℕ} {n : ℕ} → a ≡ true → Writes bytes room n room' → Writes (if_handshake (device_of d) bytes) room n room'
@@ -121,7 +110,7 @@ module _ {d : Device} {room : List ℕ} {a : Bool} (p : Handshake d a) where
   unfolding if_handshake
   says_nothing bytes f = simp (sym p.is ∙ f) (writes_nothing room)
 
-  module _ {room' : List ℕ} {b : Built} {n : ℕ} (t : a ≡ true) (h : reader_answer_size ≤ length room) where
+  module _ {room' : List ℕ} {b : Result ℕ Refusal} {n : ℕ} (t : a ≡ true) (h : reader_answer_size ≤ length room) where
     pub says_ack : Answer room reader Ack b room' → SizeOf b n → Writes (if_handshake (device_of d) (seal (reply_body reader Ack))) room n room'
     says_ack k z = shaken t (ack_writes b (omega arith) k z)
 
@@ -130,48 +119,52 @@ module _ {d : Device} {room : List ℕ} {a : Bool} (p : Handshake d a) where
 
 -- ---- PARAM_SEND, the answer to a PARAM_REQUEST
 
-built_send : (room : List ℕ) (n : ℕ) → reader_answer_size ≤ length room → n ≤ pairs_size → build_of (n + 6) room param_send reader 0 n ≡ built.Written (n + 6)
+built_send : (room : List ℕ) (n : ℕ) → reader_answer_size ≤ length room → n ≤ pairs_size → build_of (n + 6) room param_send reader 0 n ≡ Ok (n + 6)
 unfolding fields_of source_allowed status_allowed
 built_send room n h l = enough (n + 6) room param_send reader 0 n (omega arith) ∙ simp (le-leb n data_size (omega arith))
 
-pub fills : {n size : ℕ} {room room' : List ℕ} {b : Built} → reader_answer_size ≤ length room → n ≤ pairs_size → Fill room param_send reader 0 n b room' → SizeOf b size → Filled n room size room'
+-- The data, n bytes, already stands in the room from the fifth byte on.
+fills : {n size : ℕ} {room room' : List ℕ} {b : Result ℕ Refusal} → reader_answer_size ≤ length room → n ≤ pairs_size → Fill room param_send reader 0 n b room' → SizeOf b size →
+    (size ≡ n + 6) × (room' ≡ over (seal (body_of param_send reader 0 (take n (drop 4 room)))) room)
 unfolding written
 fills {n} {room = room} h l k z =
     let e = k.is ∙ built_send room n h l in
     let i = rw e at z.is in
-    record { is = omega arith; answer_is = rw e at k.room_is }
+    (i, rw e at k.room_is)
 
-pub request_few : {t : Table} {asked room room' : List ℕ} {w : Written} {n : ℕ} → Answers t asked room w room' → w ≡ given.Bytes n → n ≤ pairs_size
+request_few : {t : Table} {asked room room' : List ℕ} {w : Result ℕ Refusal} {n : ℕ} → Answers t asked room w room' → w ≡ Ok n → n ≤ pairs_size
 request_few k e = answered_most k e
 
 -- The part from the fifth byte on is lent, and has room for the data.
-lent : (room : List ℕ) {t : Table} {asked part : List ℕ} {w : Written} → reader_answer_size ≤ length room → Answers t asked (take (length room - 4) (drop 4 room)) w part →
-    (w ≡ given.Bytes (length (answer_data (values_of t) asked))) × (part ≡ over (answer_data (values_of t) asked) (take (length room - 4) (drop 4 room)))
+lent : (room : List ℕ) {t : Table} {asked part : List ℕ} {w : Result ℕ Refusal} → reader_answer_size ≤ length room → Answers t asked (take (length room - 4) (drop 4 room)) w part →
+    (w ≡ Ok (length (answer_data (values_of t) asked))) × (part ≡ over (answer_data (values_of t) asked) (take (length room - 4) (drop 4 room)))
 lent room h k =
     let s = take (length room - 4) (drop 4 room) in
     let e : ltb (length s) pairs_size ≡ false = le-ltb (length s) pairs_size (simp (length-take, length-drop) (omega arith)) in
     (k.is ∙ simp e, k.room_is ∙ simp e)
 
-module _ {t : Table} {asked room room' part : List ℕ} {w : Written} (h : reader_answer_size ≤ length room) (k : Answers t asked (take (length room - 4) (drop 4 room)) w part) where
-  pub request_never : {x : Refusal} → w ≡ given.Refused x → Writes (request_bytes (values_of t) asked) room 0 room'
-  request_never e = let g = (lent room h k).0 in never (cc)
+module _ {t : Table} {asked room room' part : List ℕ} (h : reader_answer_size ≤ length room) where
+  pub request_never : {x : Refusal} → Answers t asked (take (length room - 4) (drop 4 room)) (Err x) part → Writes (request_bytes (values_of t) asked) room 0 room'
+  request_never k = let g = (lent room h k).0 in never (cc)
 
   -- It has come back with the data at its front, and a packet is made around that.
-  pub request_filled : {n r : ℕ} → w ≡ given.Bytes n → Filled n (take 4 room ++ (part ++ drop (length room - 4) (drop 4 room))) r room' → Writes (request_bytes (values_of t) asked) room r room'
+  pub request_filled : {n r : ℕ} {b : Result ℕ Refusal} → Answers t asked (take (length room - 4) (drop 4 room)) (Ok n) part → reader_answer_size ≤ length (take 4 room ++ (part ++ drop (length room - 4) (drop 4 room))) →
+      Fill (take 4 room ++ (part ++ drop (length room - 4) (drop 4 room))) param_send reader 0 n b room' → SizeOf b r → Writes (request_bytes (values_of t) asked) room r room'
   unfolding request_bytes
-  request_filled {n} {r} e f =
+  request_filled {n} {r} k wide k' z =
       let d = answer_data (values_of t) asked in
       let b = body_of param_send reader 0 d in
       let g = lent room h k in
       let s : n ≡ length d = let i = g.0 in cc in
-      let m = request_few k e in
-      let i = f.is in
+      let m = request_few k refl in
+      let f = fills wide m k' z in
+      let i = f.0 in
       let l : length (seal b) ≡ length d + 6 = length_seal b ∙ rw (length_body param_send reader 0 d) (omega arith) in
       let there = part_over 4 (length room - 4) d room part (omega arith) (omega arith) g.1 in
       record {
         is = omega arith;
         most = omega arith;
-        answer_is = (rw there at f.answer_is) ∙ sealed_around room d param_send reader 0 n (omega arith) s;
+        answer_is = (rw there at f.1) ∙ sealed_around room d param_send reader 0 n (omega arith) s;
       }
 
 -- ---- the answer to a command
@@ -204,14 +197,14 @@ no_request command.AimOff h = refl
 pub written_there : {bytes room room' : List ℕ} {n : ℕ} → Writes bytes room n room' → take n room' ≡ bytes
 written_there {bytes} {room} {n = n} w = rw w.answer_is (take_over bytes room n w.is)
 
-pub acts_answered : {c c' : Core} {next : Device} {b : Beep} {k : Command} {n : ℕ} {carried answers answer answers' answer' : List ℕ} {r : Stepped} → length answers ≡ reader_answer_size →
-    Writes (answer_to (device_of c.device) k carried) answer n answer' → Copied (take n answer') answers answers' → CoreWith n next c.sender c' → StepOf c' (told.Acted b) n r →
-    Acts c next b k carried answers answer r answers' answer'
-acts_answered l w k core step =
+pub acts_answered : {c : Core} {acted : Acted} {k : Command} {n : ℕ} {carried answers answer answers' answer' : List ℕ} {r : Stepped} → length answers ≡ reader_answer_size →
+    Writes (answer_to (device_of c.device) k carried) answer n answer' → Copied (take n answer') answers answers' →
+    StepOf (record { last_answer = n; device = acted.device; sender = c.sender }) (told.Acted acted.beep) n r → Acts c acted k carried answers answer r answers' answer'
+acts_answered l w k step =
     let t = written_there w in
     let m = w.most in
     record {
-      is = step.is ∙ rw (core.is, w.is) refl;
+      is = step.is ∙ rw w.is refl;
       answers_is = copied_over (rw t (omega arith)) k ∙ rw t refl;
       answer_is = w.answer_is;
     }
@@ -287,11 +280,11 @@ unfolding sent_of
 sent_sent [] = refl
 sent_sent (x ∷ xs) = ap (λ (l : List Sent). x ∷ l) (sent_sent xs)
 
-pub sender_hears_lem : {c c' : Core} {body carried message copy copy' : List ℕ} {h : Heard} {g : Sending} → packet_size ≤ length copy → DataPart body carried →
+pub sender_hears_lem : {c : Core} {body carried message copy copy' : List ℕ} {h : Heard} {g : Sending} → packet_size ≤ length copy → DataPart body carried →
     sending.Heeds host (get_or body 1 0) (get_or body 2 0) (get_or body 3 0) carried h → sending.Hears c.sender message copy h g copy' →
-    CoreWith c.last_answer c.device g.sender c' → ToSender c body message copy (record { core = c'; told = told.Nothing; answer = 0; outcome = g.outcome }) copy'
+    ToSender c body message copy (record { core = record { last_answer = c.last_answer; device = c.device; sender = g.sender }; told = told.Nothing; answer = 0; outcome = g.outcome }) copy'
 unfolding sender_hears sender_hearing core_of
-sender_hears_lem {c} {c'} {body} {carried} {message} {copy} {copy'} {h} {g} l p q k core =
+sender_hears_lem {c} {body} {carried} {message} {copy} {copy'} {h} {g} l p q k =
     let e : h ≡ heeded body = q.is ∙ rw p.is refl in
     let y = le-ltb (length copy) packet_size l in
     let d = sender_step (sending.state_of c.sender message) h in
@@ -304,7 +297,7 @@ sender_hears_lem {c} {c'} {body} {carried} {message} {copy} {copy'} {h} {g} l p 
             told_is = sym (told_sent xs);
             count_is = rw (answer_sent xs) refl;
             outcome_is = rw (sent_sent xs, is) refl;
-            core_is = core.is ∙ rw (length-take-le c.last_answer answers f, is) refl;
+            core_is = rw (length-take-le c.last_answer answers f, is) refl;
             answers_is = sym (over_take c.last_answer answers);
             answer_is = sym (rw (answer_sent xs) (over_nil answer));
             copy_is = k.room_is ∙ simp (y, sent_sent xs);

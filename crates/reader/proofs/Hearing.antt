@@ -41,8 +41,7 @@ use Rattle.table.specs.Table.{answer_data}
 use Rattle.table.proofs.Theorems.{answer_most}
 use Rattle.commands.specs.Commands.{DeviceState, named_by, length_allowed, Acted, denied, acted, effect}
 use Rattle.commands.specs.declared.Command.{Command}
-use Rattle.commands.specs.declared.Named.{Named}
-use Rattle.commands.specs.declared.Named.TheVariants.{Unknown, Known}
+use Rattle.std.proofs.Common.{Option, Some, None}
 use Rattle.reader.specs.Reader.{CoreState, Output, refused, repeated, beeped, switched, answered, sent, reader_answer_size, handshake, if_handshake, request_bytes, refuses, no_packet_step, is_request, answer_to, acts, command_step, known_step, named_step, judged_step, sender_hears, packet_step, heard_step, reader_step}
 use Rattle.reader.specs.Promises.{told_of, answer_of, sent_of, last_answer_of, sound_core, core_of, state_of, accepts, accepts_name, heeded, sender_after, core_after, reader_of, too_small, Steps, sender_through, control_after, Hears, NoRoom, Quiet, SoundCore, Leaves, Judges, ToSender, Settles, Receives}
 use Rattle.reader.specs.declared.Core.{Core}
@@ -112,10 +111,10 @@ module _ (c : CoreState) (body : List ℕ) (few : length c.last_answer ≤ reade
       let bytes : List ℕ = answer_to c.device k (data_in body) in
       record { few = answer_few c.device k (data_in body); last_is = simp (accepts_done rows d (given answered bytes)); sender_is = refl }
 
-  kept_named : (n : Named) → Kept c body c.sender (named_step n c body)
+  kept_named : (n : Option Command) → Kept c body c.sender (named_step n c body)
   unfolding named_step known_step command_step accepts told_of
-  kept_named Unknown = kept_refused refusal.Opcode
-  kept_named (Known k) =
+  kept_named None = kept_refused refusal.Opcode
+  kept_named (Some k) =
       kept_test (length_allowed k (data_in body))
       (kept_test (resent_equal c.last body) (kept_still (repeated ∷ given answered c.last_answer) refl)
       (kept_acts k (effect c.device k (get_or body 3 0) (data_in body))))

@@ -4,6 +4,7 @@ use mathlib.Core.Path.{◌≡◌, refl, sym, ◌∙◌}
 use mathlib.Core.Bool.{Bool, true, false}
 use mathlib.Core.List.{List, [], ◌∷◌, ◌++◌, map}
 use lib.ListN.{length, get_or, take}
+use Rattle.std.proofs.Common.{Option, Some, None, Ok, Err}
 use lib.Seq.{length-take-le}
 use borrow.Author.Tests.{eq-eqb, ne_eqb}
 use Rattle.words.specs.Machine.{given}
@@ -15,13 +16,9 @@ use Rattle.packet.specs.declared.Refusal.{Refusal}
 use Rattle.packet.specs.declared.Refusal.TheVariants as refusal
 use Rattle.sender.specs.Promises.{name_of, copy_of}
 use Rattle.commands.specs.Commands.{DeviceState, length_allowed, Acted, denied, acted, judged}
-use Rattle.commands.specs.Promises.{beep_of, device_of, Names, LengthAllowed, commanded_of, Commands}
+use Rattle.commands.specs.Promises.{beep_of, device_of, device_from, Names, LengthAllowed, commanded_of, Commands}
 use Rattle.commands.specs.declared.Command.{Command}
-use Rattle.commands.specs.declared.Named.{Named}
-use Rattle.commands.specs.declared.Named.TheVariants.{Unknown, Known}
-use Rattle.commands.specs.declared.Beep.{Beep}
-use Rattle.commands.specs.declared.Verdict.TheVariants as verdict
-use Rattle.commands.specs.declared.Commanded.{Commanded}
+use Rattle.commands.specs.declared.Acted.{Acted as ActedOn}
 use Rattle.commands.proofs.Theorems.{told_denied}
 use Rattle.reader.specs.Reader.{CoreState, Output, beeped, switched, answered, refuses, answer_to, acts, command_step, known_step, named_step, judged_step}
 use Rattle.reader.specs.Promises.{told_of, answer_of, sent_of, core_of, Steps, Leaves, Judges, Performs, Again, Acts}
@@ -52,40 +49,38 @@ done_sent (row ∷ rows) d bytes = done_sent rows d bytes
 
 -- ---- `perform`
 
--- A command is done by its own verdict.
-done_by : (c : Core) (body last answers answer message copy : List ℕ) (k : Command) (act : Acted) {m : Commanded} {b : Beep} {r : Stepped} {answers' answer' : List ℕ} →
-    m ≡ commanded_of c.device act → m.verdict ≡ verdict.Done b → Acts c m.device b k (data_in body) answers answer r answers' answer' →
+-- A command is done as it tells.
+done_by : (c : Core) (body last answers answer message copy : List ℕ) (k : Command) (act : Acted) {m : ActedOn} {r : Stepped} {answers' answer' : List ℕ} →
+    Ok m ≡ commanded_of act → Acts c m k (data_in body) answers answer r answers' answer' →
     Steps (acts (core_of c last answers message) k body act) c.sender answers answer copy r answers' answer' copy
 unfolding acts core_of commanded_of name_of copy_of
-done_by c body last answers answer message copy k (denied x) q e p = never (cc)
-done_by c body last answers answer message copy k (acted next rows) {m} {b} q e p =
+done_by c body last answers answer message copy k (denied x) q p = never (cc)
+done_by c body last answers answer message copy k (acted next rows) {m} q p =
     let bytes : List ℕ = answer_to (device_of c.device) k (data_in body) in
-    let row : b ≡ beep_of rows = cc in
+    let same : m ≡ record { device = device_from next; beep = beep_of rows } = cc in
     record {
-      told_is = rw (p.is, done_told_lem rows next bytes, row) refl;
+      told_is = rw (p.is, done_told_lem rows next bytes, same) refl;
       count_is = rw (p.is, done_answer rows next bytes) refl;
       outcome_is = rw (p.is, done_sent rows next bytes) refl;
-      core_is = rw (p.is, q) refl;
+      core_is = rw (p.is, same) refl;
       answers_is = p.answers_is;
       answer_is = rw (done_answer rows next bytes) p.answer_is;
       copy_is = rw (done_sent rows next bytes) (sym (over_nil copy));
     }
 
-module _ {c : Core} {k : Command} {status : ℕ} {carried answers answer : List ℕ} {m : Commanded} {r : Stepped} (few : c.last_answer ≤ length answers)
-    (p : Commands c.device (judged (device_of c.device) k status carried) m) where
-  pub performs_denied : {answer' : List ℕ} {x : Refusal} → m.verdict ≡ verdict.Denied x → Leaves (λ (s : CoreState). refuses s x) c answer r answer' →
+module _ {c : Core} {k : Command} {status : ℕ} {carried answers answer answer' : List ℕ} {r : Stepped} where
+  pub performs_denied : {x : Refusal} → c.last_answer ≤ length answers → Commands (judged (device_of c.device) k status carried) (Err x) → Leaves (λ (s : CoreState). refuses s x) c answer r answer' →
       Performs c k status carried answers answer r answers answer'
   unfolding acts core_of
-  performs_denied {x = x} e l =
-      let a = told_denied c.device (judged (device_of c.device) k status carried) (rw p.is at e) in
+  performs_denied few p l =
+      let a = told_denied (judged (device_of c.device) k status carried) (sym p.is) in
       record { steps = λ body last message copy q. rw a (l.steps last answers message copy few) }
 
-  pub performs_done : {answers' answer' : List ℕ} {b : Beep} → m.verdict ≡ verdict.Done b → Acts c m.device b k carried answers answer r answers' answer' →
+  pub performs_done : {answers' : List ℕ} {m : ActedOn} → Commands (judged (device_of c.device) k status carried) (Ok m) → Acts c m k carried answers answer r answers' answer' →
       Performs c k status carried answers answer r answers' answer'
-  performs_done e l =
+  performs_done p l =
       record {
-        steps = λ body last message copy q.
-            done_by c body last answers answer message copy k (judged (device_of c.device) k status carried) p.is e (rw q at l);
+        steps = λ body last message copy q. done_by c body last answers answer message copy k (judged (device_of c.device) k status carried) p.is (rw q at l);
       }
 
 -- ---- `known`
@@ -142,13 +137,13 @@ module _ {c : Core} {body last answers answer answer' : List ℕ} {r : Stepped} 
     unfolding judged_step
     judges_status e k = record { steps = λ message copy. simp (eq-eqb (get_or body 2 0) host s, sym w.is ∙ e) (k.steps last answers message copy few) }
 
-    module _ {n : Named} (e : a ≡ true) (p : Names (get_or body 1 0) n) where
-      pub judges_opcode : n ≡ Unknown → Leaves (λ (s : CoreState). refuses s refusal.Opcode) c answer r answer' → Judges judged_step c body last answers answer r answers answer'
+    module _ {n : Option Command} (e : a ≡ true) (p : Names (get_or body 1 0) n) where
+      pub judges_opcode : n ≡ None → Leaves (λ (s : CoreState). refuses s refusal.Opcode) c answer r answer' → Judges judged_step c body last answers answer r answers answer'
       unfolding judged_step named_step
       judges_opcode f k =
           record { steps = λ message copy. simp (eq-eqb (get_or body 2 0) host s, sym w.is ∙ e, sym p.is ∙ f) (k.steps last answers message copy few) }
 
-      pub judges_known : {k : Command} {answers' : List ℕ} → n ≡ Known k → Judges (known_step k) c body last answers answer r answers' answer' →
+      pub judges_known : {k : Command} {answers' : List ℕ} → n ≡ Some k → Judges (known_step k) c body last answers answer r answers' answer' →
           Judges judged_step c body last answers answer r answers' answer'
       unfolding judged_step named_step
       judges_known f q = record { steps = λ message copy. simp (eq-eqb (get_or body 2 0) host s, sym w.is ∙ e, sym p.is ∙ f) (q.steps message copy) }

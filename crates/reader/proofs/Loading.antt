@@ -13,8 +13,9 @@ use Rattle.table.specs.Rows.{parameter_count}
 use Rattle.table.specs.Table.{Values, Outcome as Settled, done, refused as unsettled, power_up}
 use Rattle.table.specs.Promises.{values_of, table_of, changed_of}
 use Rattle.table.specs.declared.Table.{Table}
-use Rattle.table.specs.declared.Changed.{Changed}
-use Rattle.table.specs.declared.Verdict.TheVariants as verdict
+use Rattle.std.proofs.Common.{Result, Ok, Err}
+use Rattle.std.specs.Result.{IsErrAnd}
+use Rattle.std.proofs.lemmas.Result.{err_from_is_err_and}
 use Rattle.table.proofs.Theorems.{AllAllowed, KeepsLocked, keeps_same, keeps_then, power_up_keeps, powered_up_allowed}
 use Rattle.saved.specs.Saved.{edition1, form_of, read_form}
 use Rattle.saved.specs.Promises as saved
@@ -24,31 +25,31 @@ use Rattle.commands.proofs.Outcomes.{Does}
 use Rattle.commands.proofs.Theorems.{does_allowed, does_keeps}
 use Rattle.reader.specs.Reader.{ReaderState, Output, refused, sender_hears, with_core, start_message, time_out, power_up_reader, with_set, settled, load_set}
 use Rattle.reader.specs.Moments.{Moment, hears, starts, times_out, powers_up, after_one, after_all}
-use Rattle.reader.specs.Promises.{last_answer_of, core_of, state_of, with_table, loaded_of, Loads, WithTable}
+use Rattle.reader.specs.Promises.{last_answer_of, core_of, state_of, with_table, loaded_of, Loads, left_of, WithTable}
 use Rattle.reader.specs.declared.Reader.{Reader}
-use Rattle.reader.specs.declared.Loaded.{Loaded}
 use Rattle.reader.proofs.Theorems.{event_values}
 
 -- ---- `load`
 
-done_by : {reader next : Reader} (t : Table) (o : Settled) {set : Table} → record { table = set; verdict = verdict.Done } ≡ changed_of t o → WithTable reader set next →
-    record { reader = next; verdict = verdict.Done } ≡ loaded_of reader o
+done_by : (reader : Reader) (o : Settled) {set : Table} → Ok set ≡ changed_of o → Ok (with_table reader set) ≡ loaded_of reader o
 unfolding changed_of loaded_of
-done_by t (done v) {set} q w = let e : set ≡ table_of v = ap (λ (x : Changed). x.table) q in rw (w.is, e) refl
-done_by t (unsettled x) q w = let e = ap (λ (x : Changed). x.verdict) q in never (cc)
+done_by reader (done v) {set} q = let e : set ≡ table_of v = cc in rw e refl
+done_by reader (unsettled x) q = never (cc)
 
-refused_by : {reader : Reader} {set : Table} {x : Refusal} (t : Table) (o : Settled) → record { table = set; verdict = verdict.Refused x } ≡ changed_of t o →
-    record { reader = reader; verdict = verdict.Refused x } ≡ loaded_of reader o
-unfolding changed_of loaded_of
-refused_by t (done v) q = let e = ap (λ (x : Changed). x.verdict) q in never (cc)
-refused_by {x = x} t (unsettled y) q = let e : verdict.Refused x ≡ verdict.Refused y = ap (λ (x : Changed). x.verdict) q in let f : x ≡ y = cc in rw f refl
+refused_by : (o : Settled) {x : Refusal} → Err x ≡ changed_of o → o ≡ unsettled x
+unfolding changed_of
+refused_by (done v) q = never (cc)
+refused_by (unsettled y) q = cc
 
-module _ {reader : Reader} {form : List ℕ} {r : Changed} (k : saved.Loads reader.device.table form r) where
-  pub load_done : {next : Reader} → r.verdict ≡ verdict.Done → WithTable reader r.table next → Loads reader form (record { reader = next; verdict = verdict.Done })
-  load_done e w = record { is = done_by reader.device.table (read_form edition1 form) (rw (← e) k.is) w }
+module _ {reader : Reader} {form : List ℕ} where
+  pub load_done : {set : Table} {next : Reader} → saved.Loads form (Ok set) → WithTable reader set next → Loads reader form (Ok next)
+  load_done k w = record { is = rw w.is (done_by reader (read_form edition1 form) k.is) }
 
-  pub load_refused : {x : Refusal} → r.verdict ≡ verdict.Refused x → Loads reader form (record { reader = reader; verdict = verdict.Refused x })
-  load_refused e = record { is = refused_by {set = r.table} reader.device.table (read_form edition1 form) (rw (← e) k.is) }
+  pub load_refused : {x : Refusal} {r : Result Reader Refusal} → saved.Loads form (Err x) → IsErrAnd r (λ y. y ≡ x) → Loads reader form r
+  unfolding loaded_of
+  load_refused {r = r} k e =
+      let p = err_from_is_err_and r e in
+      record { is = rw (refused_by (read_form edition1 form) k.is, p.1, p.2) refl }
 
 -- Another table is that of the whole end, whatever stands in the buffers.
 pub with_table_state : (reader : Reader) (t : Table) (line answers message : List ℕ) → state_of (with_table reader t) line answers message ≡ with_set (state_of reader line answers message) (values_of t)
@@ -56,33 +57,31 @@ unfolding with_set state_of core_of last_answer_of line_in kept_in half_of last_
 with_table_state reader t line answers message = refl
 
 -- And so is reading a set.
-settled_state : (reader : Reader) (line answers message : List ℕ) (o : Settled) → state_of (loaded_of reader o).reader line answers message ≡ (settled (state_of reader line answers message) o).next
+settled_state : (reader : Reader) (line answers message : List ℕ) (o : Settled) →
+    state_of (left_of reader (loaded_of reader o)) line answers message ≡ (settled (state_of reader line answers message) o).next
 unfolding loaded_of settled
 settled_state reader line answers message (done v) = with_table_state reader (table_of v) line answers message
 settled_state reader line answers message (unsettled x) = refl
 
-pub loaded_state : {reader : Reader} {form : List ℕ} {r : Loaded} (line answers message : List ℕ) → Loads reader form r →
-    state_of r.reader line answers message ≡ (load_set (state_of reader line answers message) form).next
+pub loaded_state : {reader : Reader} {form : List ℕ} {r : Result Reader Refusal} (line answers message : List ℕ) → Loads reader form r →
+    state_of (left_of reader r) line answers message ≡ (load_set (state_of reader line answers message) form).next
 unfolding load_set
 loaded_state {reader} {form} line answers message k = rw k.is (settled_state reader line answers message (read_form edition1 form))
 
 -- ---- a set that is taken or refused
 
-refused_same_by : (reader : Reader) (o : Settled) {x : Refusal} → (loaded_of reader o).verdict ≡ verdict.Refused x → ((loaded_of reader o).reader ≡ reader) × (o ≡ unsettled x)
+refused_same_by : (reader : Reader) (o : Settled) {x : Refusal} → loaded_of reader o ≡ Err x → o ≡ unsettled x
 unfolding loaded_of
 refused_same_by reader (done v) e = never (cc)
-refused_same_by reader (unsettled y) {x} e = let f : y ≡ x = cc in (refl, rw f refl)
+refused_same_by reader (unsettled y) {x} e = cc
 
 -- A refused set leaves every part of the control value, and its refusal is number 12.
-module _ {reader : Reader} {form : List ℕ} {r : Loaded} {x : Refusal} (k : Loads reader form r) (e : r.verdict ≡ verdict.Refused x) where
-  refused_both : ((loaded_of reader (read_form edition1 form)).reader ≡ reader) × (read_form edition1 form ≡ unsettled x)
-  refused_both = refused_same_by reader (read_form edition1 form) (sym (ap (λ (l : Loaded). l.verdict) k.is) ∙ e)
-
-  pub refused_same : r.reader ≡ reader
-  refused_same = ap (λ (l : Loaded). l.reader) k.is ∙ refused_both.0
+module _ {reader : Reader} {form : List ℕ} {r : Result Reader Refusal} {x : Refusal} (k : Loads reader form r) (e : r ≡ Err x) where
+  pub refused_same : left_of reader r ≡ reader
+  refused_same = rw e refl
 
   pub refused_form : x ≡ Form
-  refused_form = read_refusal edition1 form refused_both.1
+  refused_form = read_refusal edition1 form (refused_same_by reader (read_form edition1 form) (sym k.is ∙ e))
 
 -- A set that is taken replaces values and locks, whatever was locked; the last accepted packet is forgotten, and all else stays.
 pub load_takes : (s : ReaderState) (bytes : List ℕ) {v : Values} → read_form edition1 bytes ≡ done v → load_set s bytes ≡ record { next = with_set s v; told = [] }

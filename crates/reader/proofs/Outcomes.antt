@@ -22,8 +22,7 @@ use Rattle.sender.specs.Sender.{sender_step, heed_of}
 use Rattle.sender.specs.declared.Heard.{Heard as Heeded}
 use Rattle.commands.specs.Commands.{DeviceState, Acted, acted, named_by, length_allowed}
 use Rattle.commands.specs.declared.Command.{Command}
-use Rattle.commands.specs.declared.Named.{Named}
-use Rattle.commands.specs.declared.Named.TheVariants.{Unknown, Known}
+use Rattle.std.proofs.Common.{Option, Some, None}
 use Rattle.commands.proofs.Outcomes.{Does, denies, keeps, resets, sets, does}
 use Rattle.reader.specs.Reader.{CoreState, ReaderState, Output, repeated, answered, refuses, no_packet_step, acts, command_step, known_step, named_step, judged_step, sender_hears, packet_step, heard_step}
 
@@ -51,10 +50,10 @@ module _ (c : CoreState) (body : List ℕ) where
   turned : (r : Refusal) → 4 ≤ number_of r → (cause_of r ≡ 0 → ⊥) → Outcome c body (refuses c r)
   turned r h n = turns h n
 
-  named_outcome : (n : Named) → Outcome c body (named_step n c body)
+  named_outcome : (n : Option Command) → Outcome c body (named_step n c body)
   unfolding named_step known_step command_step
-  named_outcome Unknown = turned refusal.Opcode (omega arith) (λ z. omega arith)
-  named_outcome (Known k) =
+  named_outcome None = turned refusal.Opcode (omega arith) (λ z. omega arith)
+  named_outcome (Some k) =
       by_test (length_allowed k (data_in body))
       (λ l. by_test (resent_equal c.last body) repeats (λ e. acted_outcome k (does c.device k (get_or body 3 0) (data_in body))))
       (λ l. turned refusal.Data (omega arith) (λ z. omega arith))

@@ -30,7 +30,7 @@ use Rattle.sender.proofs.Theorems.{rests, heard_unrefused}
 use Rattle.table.specs.Table.{Values}
 use Rattle.commands.specs.Commands.{DeviceState, named_by, length_allowed, denied, acted, effect}
 use Rattle.commands.specs.declared.Command.{Command}
-use Rattle.commands.specs.declared.Named.TheVariants.{Known}
+use Rattle.std.proofs.Common.{Some}
 use Rattle.commands.proofs.Outcomes.{Does}
 use Rattle.commands.proofs.Theorems.{no_answer}
 use Rattle.reader.specs.Reader.{CoreState, ReaderState, Output, refused, repeated, beeped, switched, sent, if_handshake, refusal_answer, refuses, no_packet_step, answer_to, acts, command_step, known_step, named_step, judged_step, sender_hears, packet_step, heard_step, reader_step, power_up_reader, answered}
@@ -210,7 +210,7 @@ power_up_forgets s x p = refl
 -- Source, status, opcode and data length are right.
 pub record Rightful (o t : ℕ) (d : List ℕ) (k : Command) : Type 0 where
   pub status : status_allowed o t ≡ true
-  pub named : named_by o ≡ Known k
+  pub named : named_by o ≡ Some k
   pub fits : length_allowed k d ≡ true
 
 -- A command as the host sends it.

@@ -7,7 +7,8 @@ use Rattle.sender.proofs.Unique as sending
 use Rattle.table.specs.declared.Table.{Table}
 use Rattle.reader.specs.Promises.{SwitchedOn, PowersUp, Loads, WithTable, started_of, Starts, TimesOut, Hears}
 use Rattle.reader.specs.declared.Reader.{Reader}
-use Rattle.reader.specs.declared.Loaded.{Loaded}
+use Rattle.packet.specs.declared.Refusal.{Refusal}
+use Rattle.std.proofs.Common.{Result}
 use Rattle.reader.specs.declared.Started.{Started}
 use Rattle.reader.specs.declared.Taken.{Taken}
 
@@ -17,7 +18,7 @@ switched_on_unique p q = p.is ∙ sym q.is
 pub power_up_unique : {reader r r' : Reader} → PowersUp reader r → PowersUp reader r' → r ≡ r'
 power_up_unique p q = p.is ∙ sym q.is
 
-pub load_unique : {reader : Reader} {form : List ℕ} {r r' : Loaded} → Loads reader form r → Loads reader form r' → r ≡ r'
+pub load_unique : {reader : Reader} {form : List ℕ} {r r' : Result Reader Refusal} → Loads reader form r → Loads reader form r' → r ≡ r'
 load_unique p q = p.is ∙ sym q.is
 
 pub with_table_unique : {reader r r' : Reader} {t : Table} → WithTable reader t r → WithTable reader t r' → r ≡ r'

@@ -1,10 +1,11 @@
 -- What the reader's calls promise: what is told, the next state, the control value, and every byte of each lent buffer and room.
-use Rattle.std.specs.Prelude.{ℕ, ◌+◌, ◌≤◌, Bool, true, false, List, [], ◌∷◌, ◌≡◌, ltb, leb, length, get_or, take, drop}
+use Rattle.std.specs.Prelude.{ℕ, ◌≤◌, Bool, true, false, List, [], ◌∷◌, ◌≡◌, None, Result, Ok, Err, ltb, leb, length, get_or, take}
 use Rattle.words.specs.Lists.{pick, either, over}
 use Rattle.words.specs.Machine.{Done}
-use Rattle.packet.specs.Opcodes.{host, reader, param_send}
-use Rattle.packet.specs.Packet.{body_of, seal, data_in, unmarked, is_answer}
-use Rattle.packet.specs.Sizes.{head_size, checksum_size, packet_size}
+use Rattle.packet.specs.Opcodes.{host, reader}
+use Rattle.packet.specs.Packet.{data_in, unmarked, is_answer}
+use Rattle.packet.specs.Sizes.{packet_size}
+use Rattle.packet.specs.declared.Refusal.{Refusal}
 use Rattle.packet.specs.declared.Refusal.TheVariants as refusal
 use Rattle.framer.specs.Framer as Line
 use Rattle.framer.specs.Framer.{packet, refused as noPacket, framer_step}
@@ -21,13 +22,11 @@ use Rattle.sender.specs.declared.Sending.{Sending}
 use Rattle.table.specs.Table.{Values, Outcome as Settled, done, refused as unsettled, power_up}
 use Rattle.table.specs.Promises.{values_of, table_of}
 use Rattle.table.specs.declared.Table.{Table}
-use Rattle.table.specs.declared.Verdict.TheVariants as verdict
 use Rattle.saved.specs.Saved.{edition1, read_form}
 use Rattle.commands.specs.Commands.{fresh, judged}
 use Rattle.commands.specs.Promises.{beep_of, device_of, device_from}
 use Rattle.commands.specs.declared.Command.{Command}
-use Rattle.commands.specs.declared.Beep.{Beep}
-use Rattle.commands.specs.declared.Beep.TheVariants as beep
+use Rattle.commands.specs.declared.Acted.{Acted}
 use Rattle.commands.specs.declared.Device.{Device}
 use Rattle.reader.specs.Reader.{CoreState, ReaderState, Output, refused, repeated, beeped, switched, answered, sent, reader_answer_size, handshake, answer_to, acts, packet_step, sender_hears, reader_step}
 use Rattle.reader.specs.declared.Told.{Told}
@@ -37,7 +36,6 @@ use Rattle.reader.specs.declared.Stepped.{Stepped}
 use Rattle.reader.specs.declared.Reader.{Reader}
 use Rattle.reader.specs.declared.Taken.{Taken}
 use Rattle.reader.specs.declared.Started.{Started}
-use Rattle.reader.specs.declared.Loaded.{Loaded}
 
 -- ---- the answers that are enums
 
@@ -46,7 +44,7 @@ told_of [] = told.Nothing
 told_of (refused r ∷ xs) = told.Refused r
 told_of (repeated ∷ xs) = told.Repeated
 told_of (beeped row ∷ xs) = told.Acted (beep_of (row ∷ []))
-told_of (switched d ∷ xs) = told.Acted beep.Silent
+told_of (switched d ∷ xs) = told.Acted None
 told_of (answered bytes ∷ xs) = told.Nothing
 told_of (sent x ∷ xs) = told.Nothing
 
@@ -137,12 +135,18 @@ with_table r t =
       sender = r.sender;
     }
 
-unfoldable pub loaded_of : Reader → Settled → Loaded
-loaded_of reader (done v) = record { reader = with_table reader (table_of v); verdict = verdict.Done }
-loaded_of reader (unsettled x) = record { reader = reader; verdict = verdict.Refused x }
+unfoldable pub loaded_of : Reader → Settled → Result Reader Refusal
+loaded_of r (done v) = Ok (with_table r (table_of v))
+loaded_of r (unsettled x) = Err x
 
-pub record Loads (reader : Reader) (form : List ℕ) (r : Loaded) : Type 0 where
+-- The reader with the set that was read, or this refusal and nothing else: the caller's reader is its own, and stays.
+pub record Loads (reader : Reader) (form : List ℕ) (r : Result Reader Refusal) : Type 0 where
   pub is : r ≡ loaded_of reader (read_form edition1 form)
+
+-- What the caller has then: the new reader, or on a refusal its own as it was.
+abbrev pub left_of : Reader → Result Reader Refusal → Reader
+left_of r (Ok next) = next
+left_of r (Err x) = r
 
 -- Number 13 is tested first, and the event is then not taken: room for the longest answer, and for a packet.
 unfoldable pub too_small : List ℕ → List ℕ → Bool
@@ -240,12 +244,6 @@ pub record Writes (bytes answer : List ℕ) (r : ℕ) (answer' : List ℕ) : Typ
   pub most : r ≤ reader_answer_size
   pub answer_is : answer' ≡ over bytes answer
 
-pub record CoreWith (answer : ℕ) (d : Device) (s : Sender) (r : Core) : Type 0 where
-  pub is : r ≡ record { last_answer = answer; device = d; sender = s }
-
-pub record ReaderOf (h : Halves) (c : Core) (r : Reader) : Type 0 where
-  pub is : r ≡ reader_of h c
-
 pub record WithTable (reader : Reader) (t : Table) (r : Reader) : Type 0 where
   pub is : r ≡ with_table reader t
 
@@ -260,16 +258,8 @@ pub record StepOf (c : Core) (t : Told) (n : ℕ) (r : Stepped) : Type 0 where
 pub record SentBy (reader : Reader) (s : Sending) (r : Started) : Type 0 where
   pub is : r ≡ started_of reader s
 
-pub record Joined (h : Halves) (s : Stepped) (r : Taken) : Type 0 where
-  pub is : r ≡ record { reader = reader_of h s.core; told = s.told; answer = s.answer; outcome = s.outcome }
-
 pub record Accepts (t : Told) (r : Bool) : Type 0 where
   pub is : r ≡ accepts_name t
-
--- The data, count bytes, already stands in the room from the fifth byte on.
-pub record Filled (count : ℕ) (answer : List ℕ) (r : ℕ) (answer' : List ℕ) : Type 0 where
-  pub is : r ≡ head_size + count + checksum_size
-  pub answer_is : answer' ≡ over (seal (body_of param_send reader 0 (take count (drop head_size answer)))) answer
 
 -- A step that looks at device and sender alone, and leaves the kept answer and the copy room as they are.
 pub record Leaves (step : CoreState → Done CoreState Output) (c : Core) (answer : List ℕ) (r : Stepped) (answer' : List ℕ) : Type 0 where
@@ -298,10 +288,10 @@ pub record Again (c : Core) (answers answer : List ℕ) (r : Stepped) (answer' :
   pub is : r ≡ step_of c told.Repeated c.last_answer
   pub answer_is : answer' ≡ over (take c.last_answer answers) answer
 
-pub record Acts (c : Core) (next : Device) (b : Beep) (k : Command) (carried answers answer : List ℕ) (r : Stepped) (answers' answer' : List ℕ) : Type 0 where
+pub record Acts (c : Core) (acted : Acted) (k : Command) (carried answers answer : List ℕ) (r : Stepped) (answers' answer' : List ℕ) : Type 0 where
   pub is :
       r
-      ≡ step_of (record { last_answer = length (answer_to (device_of c.device) k carried); device = next; sender = c.sender }) (told.Acted b)
+      ≡ step_of (record { last_answer = length (answer_to (device_of c.device) k carried); device = acted.device; sender = c.sender }) (told.Acted acted.beep)
       (length (answer_to (device_of c.device) k carried))
   pub answers_is : answers' ≡ over (answer_to (device_of c.device) k carried) answers
   pub answer_is : answer' ≡ over (answer_to (device_of c.device) k carried) answer

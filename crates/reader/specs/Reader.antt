@@ -1,5 +1,5 @@
 -- §6, §7, §10, §11 and §21: the reader's whole end: framer, command side and sender, and a saved set read into it.
-use Rattle.std.specs.Prelude.{ℕ, ◌+◌, Bool, true, false, List, [], ◌∷◌, ◌++◌, map, eqb, leb, get_or}
+use Rattle.std.specs.Prelude.{ℕ, ◌+◌, Bool, true, false, List, [], ◌∷◌, ◌++◌, Option, Some, None, map, eqb, leb, get_or}
 use Rattle.words.specs.Lists.{pick, both}
 use Rattle.words.specs.Machine.{Done, given}
 use Rattle.packet.specs.Opcodes.{host, reader, param_send}
@@ -20,8 +20,6 @@ use Rattle.saved.specs.Saved.{edition1, read_form}
 use Rattle.commands.specs.Commands.{DeviceState, fresh, named_by, length_allowed, Acted, denied, acted, effect}
 use Rattle.commands.specs.declared.Command.{Command}
 use Rattle.commands.specs.declared.Command.TheVariants.{ParamSend, ParamRequest, ParamDefaults, StartSession, StopSession, Beep, LedOn, LedOff, ScanEnable, ScanDisable, AimOn, AimOff}
-use Rattle.commands.specs.declared.Named.{Named}
-use Rattle.commands.specs.declared.Named.TheVariants.{Unknown, Known}
 
 -- The device, the last accepted packet's body without its mark (no bytes: none) with the answer it had, and the sender.
 pub record CoreState : Type 0 where
@@ -102,9 +100,9 @@ command_step k c body =
 unfoldable pub known_step : Command → CoreState → List ℕ → Done CoreState Output
 known_step k c body = pick (length_allowed k (data_in body)) (command_step k c body) (refuses c Data)
 
-unfoldable pub named_step : Named → CoreState → List ℕ → Done CoreState Output
-named_step Unknown c body = refuses c Opcode
-named_step (Known k) c body = known_step k c body
+unfoldable pub named_step : Option Command → CoreState → List ℕ → Done CoreState Output
+named_step None c body = refuses c Opcode
+named_step (Some k) c body = known_step k c body
 
 unfoldable pub judged_step : CoreState → List ℕ → Done CoreState Output
 judged_step c body =

@@ -6,13 +6,12 @@ ghost use Rattle.packet.specs.Opcodes as opcode;
 ghost use Rattle.packet.specs.Packet.{seal, reply_body};
 ghost use Rattle.packet.specs.Refusals.{nak_bytes};
 ghost use Rattle.packet.specs.Sizes.{head_size, body_size, packet_size};
-ghost use Rattle.table.specs.Rows.{pairs_size};
 ghost use Rattle.table.specs.Promises.{values_of};
 ghost use Rattle.reader.specs.Reader.{reader_answer_size, judged_step, known_step, no_packet_step, refuses, if_handshake, request_bytes, answer_to};
 ghost use Rattle.commands.specs.Promises.{device_of};
-ghost use Rattle.reader.specs.Promises.{SwitchedOn, PowersUp, Loads, Hears, Starts, TimesOut, NoRoom, Quiet, SoundCore, Handshake, Writes, CoreWith, ReaderOf, WithTable, StepOf, SentBy, Joined, Accepts, ToSender, Leaves, Judges, Performs, Again, Acts, Filled, Settles, Receives};
+ghost use Rattle.reader.specs.Promises.{SwitchedOn, PowersUp, Loads, Hears, Starts, TimesOut, NoRoom, Quiet, SoundCore, Handshake, Writes, WithTable, StepOf, SentBy, Accepts, ToSender, Leaves, Judges, Performs, Again, Acts, Settles, Receives};
 
-use commands::{Beep, Command, Device, Named, Switches, Verdict};
+use commands::{Acted, Beep, Command, Device, Switches};
 use framer::{Event, Found, Halves, LINE_SIZE};
 use packet::{HOST, MESSAGE_SIZE, PACKET_SIZE, PARAM_SEND, READER, Refusal, Reply};
 use sender::{Heard, Outcome, Sender, Sending};
@@ -35,8 +34,8 @@ pub struct Reader {
 pub enum Told {
     Nothing,
     Refused(Refusal),
-    // a command was acted on
-    Acted(Beep),
+    // a command was acted on; the row of beeps that it reports, if one
+    Acted(Option<Beep>),
     // a resent equal, answered again and not acted on
     Repeated,
 }
@@ -54,13 +53,6 @@ pub struct Taken {
 pub struct Started {
     pub reader: Reader,
     pub outcome: Outcome,
-}
-
-// Whether a saved set was taken.
-#[derive(Clone, Copy)]
-pub struct Loaded {
-    pub reader: Reader,
-    pub verdict: table::Verdict,
 }
 
 // The reader's control value without its line.
@@ -83,70 +75,53 @@ struct Stepped {
 pub fn switched_on(table: Table) -> Reader
     ensures { SwitchedOn table result }
 {
-    let device = Device {
-        table: table::power_up(table),
-        switches: Switches {
-            scanning: true,
-            session: false,
-            aim: false,
-            led: false,
+    Reader {
+        line: framer::idle_halves(),
+        last_answer: 0,
+        device: Device {
+            table: table::power_up(table),
+            switches: Switches {
+                scanning: true,
+                session: false,
+                aim: false,
+                led: false,
+            },
         },
-    };
-    reader_of(
-        framer::idle_halves(),
-        core_with(0, device, sender::idle(false)),
-    )
+        sender: sender::idle(false),
+    }
 }
 
 // Power-up copies permanent to present, clears framer and sender and forgets the last accepted packet.
 pub fn power_up(reader: Reader) -> Reader
     ensures { PowersUp reader result }
 {
-    let device = reader.device;
-    let table = device.table;
-    switched_on(table)
+    switched_on(reader.device.table)
 }
 
 // Reads a saved set: it replaces permanent and present values and the locks, and the last accepted packet is forgotten. 12 for bytes
-// that are no form, and the reader stays.
-pub fn load(reader: Reader, form: &[u8]) -> Loaded
+// that are no form: the reader went by value, so the caller's own stays.
+pub fn load(reader: Reader, form: &[u8]) -> Result<Reader, Refusal>
     ensures { Loads reader form.now result }
 {
-    let device = reader.device;
-    let table = device.table;
-    let changed = saved::load(table, form);
-    let set = changed.table;
-    let verdict = changed.verdict;
-    match verdict {
-        table::Verdict::Done => Loaded {
-            reader: with_table(reader, set),
-            verdict: table::Verdict::Done,
-        },
-        table::Verdict::Refused(refusal) => Loaded {
-            reader,
-            verdict: table::Verdict::Refused(refusal),
-        },
-    }
+    let table = saved::load(form)?;
+    Ok(with_table(reader, table))
 }
 
 // The reader with another table: values and locks are replaced, and the last accepted packet is forgotten.
 pub fn with_table(reader: Reader, table: Table) -> Reader
     ensures { WithTable reader table result }
 {
-    let line = reader.line;
-    let framer = line.framer;
-    let device = reader.device;
-    let switches = device.switches;
-    let sender = reader.sender;
     Reader {
         line: Halves {
-            framer,
-            second: line.second,
             last: 0,
+            ..reader.line
         },
         last_answer: 0,
-        device: Device { table, switches },
-        sender,
+        device: Device {
+            table,
+            ..reader.device
+        },
+        ..reader
     }
 }
 
@@ -180,13 +155,12 @@ pub fn time_out(reader: Reader, message: &[u8; MESSAGE_SIZE], copy: &mut [u8]) -
 fn sent(reader: Reader, sending: Sending) -> Started
     ensures { SentBy reader sending result }
 {
-    let line = reader.line;
-    let device = reader.device;
-    let next = sending.sender;
-    let outcome = sending.outcome;
     Started {
-        reader: reader_of(line, core_with(reader.last_answer, device, next)),
-        outcome,
+        reader: Reader {
+            sender: sending.sender,
+            ..reader
+        },
+        outcome: sending.outcome,
     }
 }
 
@@ -202,16 +176,12 @@ pub fn hear(
 ) -> Taken
     ensures { Hears reader line.old answers.old message.now answer.old copy.old event result line.new answers.new answer.new copy.new }
 {
-    if answer.len() < READER_ANSWER_SIZE {
-        return no_room(reader);
-    }
-    if copy.len() < PACKET_SIZE {
+    if answer.len() < READER_ANSWER_SIZE || copy.len() < PACKET_SIZE {
         return no_room(reader);
     }
     let listened = framer::listen(reader.line, line, event);
     let halves = listened.halves;
-    let found = listened.found;
-    match found {
+    match listened.found {
         Found::Nothing => quiet(reader, halves),
         Found::Refused(refusal) => settle(
             halves,
@@ -247,14 +217,10 @@ fn no_room(reader: Reader) -> Taken
 fn quiet(reader: Reader, halves: Halves) -> Taken
     ensures { Quiet reader halves result }
 {
-    let device = reader.device;
-    let sender = reader.sender;
     Taken {
         reader: Reader {
             line: halves,
-            last_answer: reader.last_answer,
-            device,
-            sender,
+            ..reader
         },
         told: Told::Nothing,
         answer: 0,
@@ -267,34 +233,15 @@ fn sound_core(reader: Reader, answers: &[u8]) -> Core
     requires { length answers.now ≡ reader_answer_size }
     ensures { SoundCore reader answers.now result }
 {
-    let device = reader.device;
-    let sender = reader.sender;
-    if reader.last_answer <= answers.len() {
-        return core_with(reader.last_answer, device, sender);
-    }
-    core_with(0, device, sender)
-}
-
-fn core_with(last_answer: usize, device: Device, sender: Sender) -> Core
-    ensures { CoreWith last_answer device sender result }
-{
+    let last_answer = if reader.last_answer <= answers.len() {
+        reader.last_answer
+    } else {
+        0
+    };
     Core {
         last_answer,
-        device,
-        sender,
-    }
-}
-
-fn reader_of(line: Halves, core: Core) -> Reader
-    ensures { ReaderOf line core result }
-{
-    let device = core.device;
-    let sender = core.sender;
-    Reader {
-        line,
-        last_answer: core.last_answer,
-        device,
-        sender,
+        device: reader.device,
+        sender: reader.sender,
     }
 }
 
@@ -314,36 +261,29 @@ fn step(core: Core, told: Told, answer: usize) -> Stepped
 fn settle(halves: Halves, n: usize, stepped: Stepped) -> Taken
     ensures { Settles halves n stepped result }
 {
-    let told = stepped.told;
-    if accepted(told) {
-        return joined(framer::accept(halves, n), stepped);
-    }
-    joined(halves, stepped)
-}
-
-fn joined(halves: Halves, stepped: Stepped) -> Taken
-    ensures { Joined halves stepped result }
-{
+    let line = if accepted(stepped.told) {
+        framer::accept(halves, n)
+    } else {
+        halves
+    };
     let core = stepped.core;
-    let told = stepped.told;
-    let outcome = stepped.outcome;
     Taken {
-        reader: reader_of(halves, core),
-        told,
+        reader: Reader {
+            line,
+            last_answer: core.last_answer,
+            device: core.device,
+            sender: core.sender,
+        },
+        told: stepped.told,
         answer: stepped.answer,
-        outcome,
+        outcome: stepped.outcome,
     }
 }
 
 fn accepted(told: Told) -> bool
     ensures { Accepts told result }
 {
-    match told {
-        Told::Nothing => false,
-        Told::Refused(_) => false,
-        Told::Acted(_) => true,
-        Told::Repeated => false,
-    }
+    matches!(told, Told::Acted(_))
 }
 
 // A packet of n bytes stands in the half that receives.
@@ -377,14 +317,14 @@ fn to_sender(core: Core, body: &[u8], message: &[u8; MESSAGE_SIZE], copy: &mut [
     // A copy of the sender alone: the whole core would stand in memory for the call.
     let before = core.sender;
     let sending = sender::hear(before, message, copy, heard);
-    let sender = sending.sender;
-    let outcome = sending.outcome;
-    let device = core.device;
     Stepped {
-        core: core_with(core.last_answer, device, sender),
+        core: Core {
+            sender: sending.sender,
+            ..core
+        },
         told: Told::Nothing,
         answer: 0,
-        outcome,
+        outcome: sending.outcome,
     }
 }
 
@@ -404,8 +344,7 @@ fn refuse(core: Core, refusal: Refusal, answer: &mut [u8]) -> Stepped
     requires { reader_answer_size ≤ length answer.old }
     ensures { Leaves (λ s. refuses s refusal) core answer.old result answer.new }
 {
-    let device = core.device;
-    let count = nak(device, refusal, answer);
+    let count = nak(core.device, refusal, answer);
     step(core, Told::Refused(refusal), count)
 }
 
@@ -433,8 +372,7 @@ fn ack(device: Device, answer: &mut [u8]) -> usize
 fn handshake(device: Device) -> bool
     ensures { Handshake device result }
 {
-    let table = device.table;
-    table::value(table, 0x9F) == 1
+    table::value(device.table, 0x9F) == 1
 }
 
 // 4 to 6, then the command.
@@ -445,13 +383,13 @@ fn judge(core: Core, body: &[u8], last: &[u8], answers: &mut [u8], answer: &mut 
     if body[2] != HOST {
         return refuse(core, Refusal::Source, answer);
     }
-    if packet::status_allowed(body[1], body[3]) {
-        return match commands::named_by(body[1]) {
-            Named::Unknown => refuse(core, Refusal::Opcode, answer),
-            Named::Known(command) => known(core, command, body, last, answers, answer),
-        };
+    if !packet::status_allowed(body[1], body[3]) {
+        return refuse(core, Refusal::Status, answer);
     }
-    refuse(core, Refusal::Status, answer)
+    let Some(command) = commands::named_by(body[1]) else {
+        return refuse(core, Refusal::Opcode, answer);
+    };
+    known(core, command, body, last, answers, answer)
 }
 
 // A command that is known: 7, then a resent equal gets the same answer again, and any other is performed.
@@ -467,13 +405,13 @@ fn known(
     ensures { Judges (known_step command) core body.now last.now answers.old answer.old result answers.new answer.new }
 {
     let data = packet::data_part(body);
-    if commands::length_allowed(command, data) {
-        if packet::resent_equal(last, body) {
-            return again(core, answers, answer);
-        }
-        return perform(core, command, body[3], data, answers, answer);
+    if !commands::length_allowed(command, data) {
+        return refuse(core, Refusal::Data, answer);
     }
-    refuse(core, Refusal::Data, answer)
+    if packet::resent_equal(last, body) {
+        return again(core, answers, answer);
+    }
+    perform(core, command, body[3], data, answers, answer)
 }
 
 // 8 and 9, or the command is acted on.
@@ -488,16 +426,15 @@ fn perform(
     requires { (core.last_answer ≤ length answers.old) × (length answers.old ≡ reader_answer_size) × (reader_answer_size ≤ length answer.old) }
     ensures { Performs core command status «data».now answers.old answer.old result answers.new answer.new }
 {
-    let device = core.device;
-    let sender = core.sender;
     // The same core put together again: the compiled code then keeps its parts and no second copy, which saves 128 bytes of stack.
-    let same = core_with(core.last_answer, device, sender);
-    let commanded = commands::act(device, command, status, data);
-    let verdict = commanded.verdict;
-    let next = commanded.device;
-    match verdict {
-        Verdict::Denied(refusal) => refuse(same, refusal, answer),
-        Verdict::Done(beep) => act(same, next, beep, command, data, answers, answer),
+    let same = Core {
+        last_answer: core.last_answer,
+        device: core.device,
+        sender: core.sender,
+    };
+    match commands::act(core.device, command, status, data) {
+        Ok(acted) => act(same, acted, command, data, answers, answer),
+        Err(refusal) => refuse(same, refusal, answer),
     }
 }
 
@@ -514,21 +451,23 @@ fn again(core: Core, answers: &[u8], answer: &mut [u8]) -> Stepped
 // The answer goes out, and is kept for a resend.
 fn act(
     core: Core,
-    next: Device,
-    beep: Beep,
+    acted: Acted,
     command: Command,
     data: &[u8],
     answers: &mut [u8],
     answer: &mut [u8],
 ) -> Stepped
     requires { (length answers.old ≡ reader_answer_size) × (reader_answer_size ≤ length answer.old) }
-    ensures { Acts core next beep command «data».now answers.old answer.old result answers.new answer.new }
+    ensures { Acts core acted command «data».now answers.old answer.old result answers.new answer.new }
 {
-    let device = core.device;
-    let count = answer_to(device, command, data, answer);
+    let count = answer_to(core.device, command, data, answer);
     words::copy(&answer[..count], answers);
-    let sender = core.sender;
-    step(core_with(count, next, sender), Told::Acted(beep), count)
+    let next = Core {
+        last_answer: count,
+        device: acted.device,
+        ..core
+    };
+    step(next, Told::Acted(acted.beep), count)
 }
 
 // PARAM_REQUEST is answered by a PARAM_SEND in any case, the others by ACK.
@@ -536,11 +475,10 @@ fn answer_to(device: Device, command: Command, data: &[u8], answer: &mut [u8]) -
     requires { reader_answer_size ≤ length answer.old }
     ensures { Writes (answer_to (device_of device) command «data».now) answer.old result answer.new }
 {
-    if let Command::ParamRequest = command {
-        let table = device.table;
-        return request(table, data, answer);
+    match command {
+        Command::ParamRequest => request(device.table, data, answer),
+        _ => ack(device, answer),
     }
-    ack(device, answer)
 }
 
 // The pairs are written into the middle of the room, after the header; then header and checksum are filled in around them.
@@ -549,14 +487,7 @@ fn request(table: Table, asked: &[u8], answer: &mut [u8]) -> usize
     ensures { Writes (request_bytes (values_of table) asked.now) answer.old result answer.new }
 {
     match table::answer(table, asked, &mut answer[4..]) {
-        table::Written::Bytes(count) => filled(count, answer),
-        table::Written::Refused(_) => 0,
+        Ok(count) => packet::size_of(packet::fill(answer, PARAM_SEND, READER, 0, count)),
+        Err(_) => 0,
     }
-}
-
-fn filled(count: usize, answer: &mut [u8]) -> usize
-    requires { (reader_answer_size ≤ length answer.old) × (count ≤ pairs_size) }
-    ensures { Filled count answer.old result answer.new }
-{
-    packet::size_of(packet::fill(answer, PARAM_SEND, READER, 0, count))
 }

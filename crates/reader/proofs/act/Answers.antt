@@ -8,4 +8,4 @@ pub slice_bounds-copy-end-2 : goal.slice_bounds-copy-end-2
 slice_bounds-copy-end-2 c = simp length-take (omega arith)
 
 pub returns : goal.returns
-returns c = acts_answered c.requires.0 c.answer_to-count.ensures c.copy.ensures c.core_with.ensures c.step.ensures
+returns c = acts_answered c.requires.0 c.answer_to-count.ensures c.copy.ensures c.step.ensures

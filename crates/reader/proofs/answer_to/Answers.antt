@@ -1,4 +1,4 @@
--- `reader::answer_to` meets its contract: a PARAM_SEND for a PARAM_REQUEST, else ACK. Assumes nothing.
+-- `reader::answer_to` meets its contract: a request is answered by its parameters, any other command by ACK. Assumes nothing.
 use mathlib.Core.Path.{refl}
 use Rattle.reader.specs.Reader.{is_request}
 use Rattle.reader.proofs.Answering.{answers_request, answers_ack, no_request}
@@ -9,6 +9,6 @@ unfolding is_request
 returns-in-ParamRequest c = let a = c.args in
     answers_request a.device a.command a.«data».now (rw c.in-ParamRequest.is refl) c.request.ensures
 
-pub returns : goal.returns
-returns c = let a = c.args in
+pub returns-in_default : goal.returns-in_default
+returns-in_default c = let a = c.args in
     answers_ack a.device a.command a.«data».now (no_request a.command c.in_default.not-ParamRequest) c.ack.ensures

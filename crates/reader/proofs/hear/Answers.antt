@@ -1,15 +1,14 @@
 -- `reader::hear` meets its contract: 13 twice, then nothing, a refusal of the framer, or a packet. Assumes nothing.
 use native.Mathlib.Omega.{arith}
+use Rattle.std.proofs.Common.{inl, inr}
 use Rattle.reader.proofs.Hearing.{hear_answer, hear_copy, hear_quiet, hear_refused, hear_packet}
 use Rattle.framer.proofs.TwoHalves.{listened_packet}
 use borrow.Author.Rules.{rules}
 use Rattle.reader.proofs.hear.Goals as goal
 
 pub returns-then-answer-lt-READER_ANSWER_SIZE : goal.returns-then-answer-lt-READER_ANSWER_SIZE
-returns-then-answer-lt-READER_ANSWER_SIZE c = hear_answer (omega arith) c.no_room.ensures
-
-pub returns-then-copy-lt-PACKET_SIZE : goal.returns-then-copy-lt-PACKET_SIZE
-returns-then-copy-lt-PACKET_SIZE c = hear_copy (omega arith) (omega arith) c.no_room-then-copy-lt-PACKET_SIZE.ensures
+returns-then-answer-lt-READER_ANSWER_SIZE c =
+    elim c.then-answer-lt-READER_ANSWER_SIZE.either [ inl h ↦ hear_answer h c.no_room.ensures | inr h ↦ hear_copy h.0 h.1 c.no_room.ensures ]
 
 pub received-requires : goal.received-requires
 received-requires c = let w = listened_packet c.listen-listened.ensures c.in-Packet.is in

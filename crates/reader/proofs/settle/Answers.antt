@@ -1,9 +1,11 @@
--- `reader::settle` meets its contract: a command that was acted on stays, and the other half receives. Assumes nothing.
+-- `reader::settle` meets its contract: a packet that was accepted stays where it was received. Assumes nothing.
 use Rattle.reader.proofs.Answering.{settles_accepted, settles_other}
 use Rattle.reader.proofs.settle.Goals as goal
-
-pub returns-then-accepted : goal.returns-then-accepted
-returns-then-accepted c = settles_accepted c.accepted.ensures c.if-accepted.true c.accept.ensures c.joined.ensures
+use Rattle.reader.proofs.settle.Goals.{then-accepted, else-accepted}
 
 pub returns : goal.returns
-returns c = settles_other c.accepted.ensures c.if-accepted.false c.joined-2.ensures
+returns c =
+    elim c.if-accepted.branch [
+      | then-accepted w ↦ settles_accepted c.accepted.ensures w.if-accepted.true w.accept-line.ensures w.line-is
+      | else-accepted w ↦ settles_other c.accepted.ensures w.if-accepted.false w.line-is
+    ]

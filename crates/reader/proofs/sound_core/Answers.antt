@@ -1,10 +1,12 @@
--- `reader::sound_core` meets its contract: an answer longer than its buffer is none. Assumes nothing.
+-- `reader::sound_core` meets its contract: the answer fits its buffer, or is none. Assumes nothing.
 use native.Mathlib.Omega.{arith}
 use Rattle.reader.proofs.Answering.{core_kept, core_none}
 use Rattle.reader.proofs.sound_core.Goals as goal
-
-pub returns-then-reader-answers : goal.returns-then-reader-answers
-returns-then-reader-answers c = core_kept c.requires (omega arith) c.core_with.ensures
+use Rattle.reader.proofs.sound_core.Goals.{then-reader-answers, else-reader-answers}
 
 pub returns : goal.returns
-returns c = core_none c.requires (omega arith) c.core_with-2.ensures
+returns c =
+    elim c.if-reader-answers.branch [
+      | then-reader-answers w ↦ rw w.last_answer-is (core_kept c.requires (omega (arith, w.if-reader-answers.true)))
+      | else-reader-answers w ↦ rw w.last_answer-is (core_none c.requires (omega (arith, w.if-reader-answers.false)))
+    ]

@@ -1,6 +1,6 @@
--- `reader::switched_on` meets its contract. Assumes nothing.
-use Rattle.reader.proofs.Answering.{switched}
+-- `reader::switched_on` meets its contract: its parts are those of a reader just switched on. Assumes nothing.
+use mathlib.Core.Path.{refl}
 use Rattle.reader.proofs.switched_on.Goals as goal
 
 pub returns : goal.returns
-returns c = switched c.power_up.ensures c.idle_halves.ensures c.idle.ensures c.core_with.ensures c.reader_of.ensures
+returns c = record { is = rw (c.power_up.ensures.is, c.idle_halves.ensures.is, c.idle.ensures.is) refl }

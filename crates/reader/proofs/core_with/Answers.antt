@@ -1,6 +1,0 @@
--- `reader::core_with` meets its contract: the fields are put together. Assumes nothing.
-use mathlib.Core.Path.{refl}
-use Rattle.reader.proofs.core_with.Goals as goal
-
-pub returns : goal.returns
-returns c = record { is = refl }

@@ -1,6 +1,0 @@
--- `reader::reader_of` meets its contract: the fields are put together. Assumes nothing.
-use mathlib.Core.Path.{refl}
-use Rattle.reader.proofs.reader_of.Goals as goal
-
-pub returns : goal.returns
-returns c = record { is = refl }
