@@ -13,8 +13,7 @@ use Rattle.packet.specs.Packet.{seal, check_of}
 use Rattle.packet.specs.Refusals.{number_of, cause_of}
 use Rattle.packet.specs.declared.Refusal.{Refusal}
 use Rattle.packet.specs.declared.Head.{Head}
-use Rattle.packet.specs.declared.Checked.{Checked}
-use Rattle.packet.specs.declared.Checked.TheVariants as checked
+use Rattle.std.proofs.Common.{Result, Ok, Err}
 use Rattle.packet.proofs.Theorems.{Body, check_front, turned}
 use Rattle.framer.specs.Framer.{Line, hearing, deaf, Heard, packet, refused, quiet, says, judged, at_gap, at_byte, framer_step}
 use Rattle.framer.specs.declared.Event.TheVariants.{Byte, CharacterGap}
@@ -71,10 +70,10 @@ module _ (s bytes : List ℕ) (on : packets_in (heard_from (hearing s) bytes) �
   refused_unheard r true c e = on e
   refused_unheard r false c e = rw (deaf_after bytes) (noise c)
 
-  judged_unheard : (c : Checked) → check_of s ≡ c → packets_in (heard_behind (judged s c) bytes) ≡ [] → Unheard (heard_behind (judged s c) bytes)
+  judged_unheard : (c : Result Head Refusal) → check_of s ≡ c → packets_in (heard_behind (judged s c) bytes) ≡ [] → Unheard (heard_behind (judged s c) bytes)
   unfolding judged packets_in
-  judged_unheard (checked.Packet head) f e = never (cc)
-  judged_unheard (checked.Refused r) f e = refused_unheard r (eqb (number_of r) 3) (turned s f).cause e
+  judged_unheard (Ok head) f e = never (cc)
+  judged_unheard (Err r) f e = refused_unheard r (eqb (number_of r) 3) (turned s f).cause e
 
 unheard_from : (got bytes : List ℕ) → packets_in (heard_from (hearing got) bytes) ≡ [] → Unheard (heard_from (hearing got) bytes)
 unheard_from got [] e = gap_unheard got
@@ -95,20 +94,20 @@ module _ (s bytes : List ℕ) (on : packets_in (heard_from (hearing s) bytes) �
   refused_none r true = on
   refused_none r false = rw (deaf_after bytes) refl
 
-  judged_none : (c : Checked) → check_of s ≡ c → ((h : Head) → check_of (s ++ bytes) ≡ checked.Packet h → ⊥) → packets_in (heard_behind (judged s c) bytes) ≡ []
+  judged_none : (c : Result Head Refusal) → check_of s ≡ c → ((h : Head) → check_of (s ++ bytes) ≡ Ok h → ⊥) → packets_in (heard_behind (judged s c) bytes) ≡ []
   unfolding judged
-  judged_none (checked.Packet h) f n = absurd (n h (check_front s bytes (λ e. never (cc)) ∙ f))
-  judged_none (checked.Refused r) f n = refused_none r (eqb (number_of r) 3)
+  judged_none (Ok h) f n = absurd (n h (check_front s bytes (λ e. never (cc)) ∙ f))
+  judged_none (Err r) f n = refused_none r (eqb (number_of r) 3)
 
-none_from : (got bytes : List ℕ) → ((h : Head) → check_of (got ++ bytes) ≡ checked.Packet h → ⊥) → packets_in (heard_from (hearing got) bytes) ≡ []
+none_from : (got bytes : List ℕ) → ((h : Head) → check_of (got ++ bytes) ≡ Ok h → ⊥) → packets_in (heard_from (hearing got) bytes) ≡ []
 none_from got [] n = gap_none got
 none_from got (x ∷ xs) n =
     let s : List ℕ = got ++ (x ∷ []) in
-    let m : (h : Head) → check_of (s ++ xs) ≡ checked.Packet h → ⊥ = λ h e. n h (ap check_of (sym (append_assoc got (x ∷ []) xs)) ∙ e) in
+    let m : (h : Head) → check_of (s ++ xs) ≡ Ok h → ⊥ = λ h e. n h (ap check_of (sym (append_assoc got (x ∷ []) xs)) ∙ e) in
     rw (heard_byte got xs x) (judged_none s xs (none_from s xs m) (check_of s) refl m)
 
 -- Where the bytes do not pass the check from their first on, no packet is accepted in them: a framer begins anew only behind a packet or a gap.
-pub none_accepted : (bytes : List ℕ) → ((h : Head) → check_of bytes ≡ checked.Packet h → ⊥) → accepted bytes ≡ []
+pub none_accepted : (bytes : List ℕ) → ((h : Head) → check_of bytes ≡ Ok h → ⊥) → accepted bytes ≡ []
 unfolding accepted
 none_accepted bytes n = none_from [] bytes n
 

@@ -1,9 +1,8 @@
 -- Demand 3: what must hold of the log and of the messages handed out at the end of every run of the bench.
-use Rattle.std.specs.Prelude.{ℕ, ◌+◌, ◌≤◌, Bool, true, false, not, List, [], ◌∷◌, ◌++◌, map, ◌≡◌, length, drop, replicate}
+use Rattle.std.specs.Prelude.{ℕ, ◌+◌, ◌≤◌, Bool, true, false, not, List, [], ◌∷◌, ◌++◌, map, ◌≡◌, Ok, length, drop, replicate}
 use Rattle.words.specs.Lists.{both, same_bytes, Each}
 use Rattle.packet.specs.Packet.{check_of, seal, marked}
 use Rattle.packet.specs.declared.Head.{Head}
-use Rattle.packet.specs.declared.Checked.TheVariants as checked
 use Rattle.framer.specs.Framer.{hearing}
 use Rattle.sender.specs.Sender.{waits}
 use Rattle.sender.specs.Pieces.{packets_of}
@@ -17,7 +16,7 @@ pub record Ready (r : ReaderState) : Type 0 where
 
 -- Spoiled bytes of which no part passes the packet check, wherever it begins.
 pub record NoPart (bytes : List ℕ) : Type 0 where
-  pub none : (k : ℕ) (head : Head) → check_of (drop k bytes) ≡ checked.Packet head → ⊥
+  pub none : (k : ℕ) (head : Head) → check_of (drop k bytes) ≡ Ok head → ⊥
 
 -- ---- no two neighbouring packets are equal
 
