@@ -3,4 +3,4 @@ use Rattle.words.proofs.Lists.{compared}
 use Rattle.words.proofs.same.Goals as goal
 
 pub returns : goal.returns
-returns c = compared c.eq.ensures
+returns c = compared (cc)
