@@ -8,12 +8,11 @@ use native.Mathlib.Decide.{dec_lt}
 use lib.Dec.{eqb}
 use lib.ListN.{length, get_or, take, drop, set, length-set, length-take, get_or-eq_default}
 use lib.Seq.{set_split, set_out, set-set, get_or-set_same}
-use borrow.Author.Tests.{eq-eqb, ne_eqb}
+use borrow.Author.Tests.{eq-eqb, ne_eqb, eqb-true, eqb-false}
 use Rattle.words.specs.Lists.{both, same_bytes, Compared, pick}
 use Rattle.words.proofs.Lists.{same_refl, same_equal, other_length, same_append, rest_part}
-use Rattle.packet.specs.Packet.{unmarked, marked, equal_unmarked, resent_equal, is_answer, body_of}
-use Rattle.packet.specs.Promises.{Equal, Resent, IsAnswer}
-use Rattle.packet.specs.Opcodes.{cmd_ack, cmd_nak}
+use Rattle.packet.specs.Packet.{unmarked, marked, equal_unmarked, resent_equal, body_of}
+use Rattle.packet.specs.Promises.{Equal, Resent}
 
 -- A body of four bytes or more: what stands before the status, the status without its mark, what stands behind it.
 pub unmarked_split : (b : List ℕ) → 4 ≤ length b → unmarked b ≡ take 3 b ++ (get_or b 3 0 / 2 * 2 ∷ drop 4 b)
@@ -48,11 +47,17 @@ module _ {a b : List ℕ} {r : Bool} (h : 4 ≤ length a) (e : length a ≡ leng
   pub equal_front : r ≡ false → Equal a b false
   equal_front f = record { is = sym (equal_split a b h e ∙ simp (sym front.is ∙ f)) }
 
-  pub equal_status : r ≡ true → (get_or a 3 0 / 2 ≡ get_or b 3 0 / 2 → ⊥) → Equal a b false
-  equal_status f d = record { is = sym (equal_split a b h e ∙ simp (sym front.is ∙ f, ne_eqb (get_or a 3 0 / 2 * 2) (get_or b 3 0 / 2 * 2) (λ q. d (omega arith)))) }
+  -- The status of each without its mark, compared.
+  module _ {v : Bool} (f : r ≡ true) (q : v ≡ eqb (get_or a 3 0 / 2) (get_or b 3 0 / 2)) where
+    pub equal_status : v ≡ false → Equal a b v
+    equal_status z =
+        let apart = eqb-false (get_or a 3 0 / 2) (get_or b 3 0 / 2) (sym q ∙ z) in
+        record { is = z ∙ sym (equal_split a b h e ∙ simp (sym front.is ∙ f, ne_eqb (get_or a 3 0 / 2 * 2) (get_or b 3 0 / 2 * 2) (λ p. apart (omega arith)))) }
 
-  pub equal_rest : {r' : Bool} → r ≡ true → get_or a 3 0 / 2 ≡ get_or b 3 0 / 2 → Compared (take (length a - 4) (drop 4 a)) (take (length b - 4) (drop 4 b)) r' → Equal a b r'
-  equal_rest f q k = record { is = (rw (rest_part 4 a, rest_part 4 b) at k.is) ∙ sym (equal_split a b h e ∙ simp (sym front.is ∙ f, eq-eqb (get_or a 3 0 / 2 * 2) (get_or b 3 0 / 2 * 2) (omega arith))) }
+    pub equal_rest : {r' : Bool} → v ≡ true → Compared (take (length a - 4) (drop 4 a)) (take (length b - 4) (drop 4 b)) r' → Equal a b r'
+    equal_rest z k =
+        let alike = eqb-true (get_or a 3 0 / 2) (get_or b 3 0 / 2) (sym q ∙ z) in
+        record { is = (rw (rest_part 4 a, rest_part 4 b) at k.is) ∙ sym (equal_split a b h e ∙ simp (sym front.is ∙ f, eq-eqb (get_or a 3 0 / 2 * 2) (get_or b 3 0 / 2 * 2) (omega arith))) }
 
 -- ---- the mark itself
 
@@ -93,20 +98,11 @@ resent_short {last} {body} h =
     let e : get_or body 3 0 ≡ 0 = get_or-eq_default body 0 {n = 3} (omega arith) in
     record { is = simp (ne_eqb (get_or body 3 0 % 2) 1 (λ q. let z : get_or body 3 0 % 2 ≡ 0 = rw e refl in omega arith)) }
 
-pub resent_unmarked : {last body : List ℕ} → (get_or body 3 0 % 2 ≡ 1 → ⊥) → Resent last body false
-unfolding resent_equal
-resent_unmarked {last} {body} h = record { is = simp (ne_eqb (get_or body 3 0 % 2) 1 h) }
+module _ {last body : List ℕ} {v : Bool} (q : v ≡ eqb (get_or body 3 0 % 2) 1) where
+  pub resent_unmarked : v ≡ false → Resent last body v
+  unfolding resent_equal
+  resent_unmarked z = record { is = z ∙ sym (simp (sym q ∙ z)) }
 
-pub resent_marked : {last body : List ℕ} {r : Bool} → get_or body 3 0 % 2 ≡ 1 → Equal last body r → Resent last body r
-unfolding resent_equal equal_unmarked
-resent_marked {last} {body} e k = record { is = k.is ∙ sym (simp (eq-eqb (get_or body 3 0 % 2) 1 e)) }
-
--- ---- the opcode of an answer
-
-pub answer_ack : {o : ℕ} → o ≡ cmd_ack → IsAnswer o true
-unfolding is_answer
-answer_ack {o} e = record { is = simp (eq-eqb o cmd_ack e) }
-
-pub answer_other : {o : ℕ} → (o ≡ cmd_ack → ⊥) → IsAnswer o (eqb o cmd_nak)
-unfolding is_answer
-answer_other {o} h = record { is = simp (ne_eqb o cmd_ack h) }
+  pub resent_marked : {r : Bool} → v ≡ true → Equal last body r → Resent last body r
+  unfolding resent_equal equal_unmarked
+  resent_marked z k = record { is = k.is ∙ sym (simp (sym q ∙ z)) }

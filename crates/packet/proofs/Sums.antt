@@ -28,20 +28,25 @@ unfolding sum_of
 sum_most [] b = omega arith
 sum_most (x ∷ xs) b = let h = sum_most xs (bytes_tail b) in let k = bytes_head b in omega arith
 
+-- A body's first byte, its length, is part of its sum.
+pub first_in_sum : (s : List ℕ) → get_or s 0 0 ≤ sum_of s
+unfolding sum_of
+first_in_sum [] = omega arith
+first_in_sum (x ∷ xs) = omega arith
+
 -- The first i bytes are summed.
 pub record Summing (s : List ℕ) (total i : ℕ) : Type 0 where
-  pub at : i ≤ length s
   pub is : total ≡ sum_of (take i s)
   pub most : total ≤ 255 * i
 
 pub summing_none : {s : List ℕ} → Summing s 0 0
 unfolding sum_of
-summing_none = record { at = omega arith; is = refl; most = omega arith }
+summing_none = record { is = refl; most = omega arith }
 
 pub summing_more : {s : List ℕ} {total i x : ℕ} → Summing s total i → i < length s → x ≡ get_or s i 0 → x < 256 → Summing s (total + x) (i + 1)
-summing_more {s} {total} {i} {x} k h e l = record { at = omega arith; is = let z = sum_take s i h in let y = k.is in omega arith; most = let m = k.most in omega arith }
+summing_more {s} {total} {i} {x} k h e l = record { is = let z = sum_take s i h in let y = k.is in omega arith; most = let m = k.most in omega arith }
 
-pub summing_all : {s : List ℕ} {total i : ℕ} → Summing s total i → length s ≤ i → length s ≤ 255 → Sum s total
-summing_all {s} {total} {i} k h l =
-    let e : i ≡ length s = le_antisymm k.at h in
+pub summing_all : {s : List ℕ} {total i : ℕ} → Summing s total i → i ≤ length s → length s ≤ i → length s ≤ 255 → Sum s total
+summing_all {s} {total} {i} k at h l =
+    let e : i ≡ length s = le_antisymm at h in
     record { is = k.is ∙ (ap (λ (n : ℕ). sum_of (take n s)) e ∙ ap sum_of (take-length s)); most = let m = k.most in omega arith }

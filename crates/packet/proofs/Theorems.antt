@@ -46,11 +46,6 @@ pub sum_and_checksum : {b : List ℕ} → Body b → sum_of b + checksum_of b �
 unfolding checksum_of
 sum_and_checksum {b} k = let m = sum_limit k in omega arith
 
-first_in_sum : (b : List ℕ) → get_or b 0 0 ≤ sum_of b
-unfolding sum_of
-first_in_sum [] = omega arith
-first_in_sum (x ∷ xs) = omega arith
-
 -- ---- what is sealed is found again
 
 module _ (b rest : List ℕ) (k : Body b) where
@@ -75,20 +70,15 @@ module _ (b rest : List ℕ) (k : Body b) where
       let low = k.least in
       let high = k.most in
       let limit = sum_limit k in
-      let some = first_in_sum b in
-      let size = k.long in
       let long : length (seal b ++ rest) ≡ length b + 2 + length rest = length-append (seal b) rest ∙ rw (length_seal b) refl in
       let first : get_or (seal b ++ rest) 0 0 ≡ length b = front 0 (omega arith) ∙ k.long in
       rw (k.long, ← front 1 (omega arith), ← front 2 (omega arith), ← front 3 (omega arith))
       (check_right {s = seal b ++ rest} {n = length b}
-      (λ z. omega arith)
       (record { is = sym first; small = omega arith })
       (omega arith)
       (omega arith)
-      (record { is = sym high_byte; small = omega arith })
-      (record { is = sym (behind 1); small = omega arith })
-      (record { is = ap sum_of (sym front_part); most = omega arith })
-      (omega arith))
+      (record { is = ap (λ (l : List ℕ). checksum_of l % 65536) (sym front_part) })
+      (let high = high_byte in let low = behind 1 in omega arith))
 
   pub sealed_body : body_in (seal b ++ rest) ≡ b
   unfolding body_in

@@ -1,20 +1,19 @@
--- What the stores of header and checksum leave in the room, and how they make a packet around its data. Assumes nothing.
+-- What header and checksum leave in the room, and how they make a packet around its data. Assumes nothing.
 use Prim.Native.Nat.{ℕ, ◌+◌, ◌-◌, ◌/◌, ◌%◌, ◌≤◌, ◌<◌}
 use mathlib.Core.Path.{◌≡◌, refl, sym, ap, ◌∙◌}
 use mathlib.Core.List.{List, [], ◌∷◌, ◌++◌, append_assoc}
 use native.Mathlib.Nat.{add_comm}
-use native.Mathlib.Numerals.{add-one}
 use native.Mathlib.Omega.{arith}
-use lib.ListN.{length, take, drop, set, length-append, length-take, length-drop}
-use lib.Seq.{sets-eq, take-append-add}
+use lib.ListN.{length, take, drop, length-append, length-take, length-drop}
+use lib.Seq.{take-append-add, drop-drop}
 use lib.Dec.{leb, eqb}
 use borrow.Author.Tests.{leb-true, lt-ltb, le-ltb, eq-eqb, ne_eqb}
 use mathlib.Core.Bool.{Bool, true, false}
 use Rattle.words.specs.Lists.{pick, over, over_at, Copied}
-use Rattle.words.proofs.Lists.{over_over, over_over_at, length_over_at, take_over, drop_over_at, part_over, copied_over, set_over_at, never}
+use Rattle.words.proofs.Lists.{over_over, over_over_at, length_over_at, take_over, drop_over_at, part_over, copied_over, never}
 use Rattle.packet.specs.Opcodes.{cmd_ack, cmd_nak}
 use Rattle.packet.specs.Packet.{body_of, checksum_of, seal, status_allowed, source_allowed, fields_of, build_of, written, reply_data, reply_opcode, reply_body}
-use Rattle.packet.specs.Promises.{Cause, Sum, Fields, Headed, Sealed, Build, Fill, Answer, Naks, AllowedSource}
+use Rattle.packet.specs.Promises.{Cause, Complement, Fields, Headed, Sealed, Build, Put, Fill, Answer, Naks}
 use Rattle.packet.specs.Refusals.{cause_of, nak_bytes, nak_of}
 use Rattle.packet.specs.Sizes.{answer_size}
 use Rattle.packet.specs.declared.Refusal.{Refusal}
@@ -24,28 +23,21 @@ use Rattle.packet.specs.declared.Reply.TheVariants.{Ack, Nak}
 use Rattle.std.specs.Prelude.{Result}
 use Rattle.std.specs.Prelude.{Ok, Err}
 
--- The four stores of the header.
-pub header_over : {room : List ℕ} {n o s t x : ℕ} → 4 ≤ length room → x ≡ n + 4 → Headed room o s t n (set (set (set (set room 0 x) 1 o) 2 s) 3 t)
+-- The four bytes of the header.
+pub header_over : {room four : List ℕ} {o s t n : ℕ} → four ≡ (n + 4) ∷ o ∷ s ∷ t ∷ [] → Headed room o s t n (four ++ drop 4 room)
 unfolding over
-header_over {room = []} h e = absurd (omega arith)
-header_over {room = a ∷ []} h e = absurd (omega arith)
-header_over {room = a ∷ b ∷ []} h e = absurd (omega arith)
-header_over {room = a ∷ b ∷ c ∷ []} h e = absurd (omega arith)
-header_over {room = a ∷ b ∷ c ∷ d ∷ room} {o = o} {s = s} {t = t} h e = record { is = ap (λ (k : ℕ). k ∷ o ∷ s ∷ t ∷ room) e }
+header_over e = record { is = rw e refl }
 
--- The two stores of the checksum.
-pub checksum_over : {room : List ℕ} {n total : ℕ} → n + 2 ≤ length room → Sum (take n room) total →
-    Sealed room n (set (set room n ((65536 - total) / 256 % 256)) (n + 1) ((65536 - total) % 256))
+-- The two bytes of the checksum behind a body.
+pub checksum_over : {room two : List ℕ} {n k worked : ℕ} → n + 2 ≤ length room → k ≡ 2 → Complement (take n room) worked → two ≡ worked / 256 % 256 ∷ worked % 256 ∷ [] →
+    Sealed room n (take n room ++ (two ++ drop k (drop n room)))
 unfolding over seal checksum_of
-checksum_over {room} {n} {total} h sum =
-    let a = (65536 - total) / 256 % 256 in
-    let b = (65536 - total) % 256 in
-    let l : length (take n room ++ (a ∷ b ∷ [])) ≡ n + 2 = simp (length-append, length-take) (omega arith) in
-    record {
-      is =
-          rw (← sum.is, add-one n)
-          (sets-eq (a ∷ b ∷ []) room n (omega arith) ∙ rw (l, append_assoc) refl);
-    }
+checksum_over {room} {two} {n} {k} {worked} h f p e =
+    let c = checksum_of (take n room) in
+    let high : worked / 256 % 256 ≡ c / 256 % 256 = omega (arith, p.is) in
+    let low : worked % 256 ≡ c % 256 = omega (arith, p.is) in
+    let l : length (take n room ++ (c / 256 % 256 ∷ c % 256 ∷ [])) ≡ n + 2 = simp (length-append, length-take) (omega arith) in
+    record { is = rw (f, e, high, low, drop-drop 2 n room, l, append_assoc) refl }
 
 -- ---- a packet's length
 
@@ -114,15 +106,11 @@ fill_written {room} {room₁} {room₂} {o} {s} {t} {n} {m} {size} h f d q k =
       room_is = k.is ∙ (rw (is_body, d.is) (over_over (seal body) head room (rw (length_seal body, length_body o s t (take n (drop 4 room))) (omega arith))));
     }
 
--- ---- `build`
+-- ---- `put`
 
-pub build_room : {room d : List ℕ} {o s t : ℕ} → length room < 257 → Build room o s t d (Err Room) room
+pub put_refused : {room d : List ℕ} {o s t : ℕ} {x : Refusal} → Fields o s t (length d) (Err x) → Put room o s t d (Err x) room
 unfolding written over
-build_room {room} {d} {o} {s} {t} h = record { is = sym (too_little 257 room o s t (length d) h); room_is = refl }
-
-pub build_refused : {room d : List ℕ} {o s t : ℕ} {x : Refusal} → 257 ≤ length room → Fields o s t (length d) (Err x) → Build room o s t d (Err x) room
-unfolding written over
-build_refused {room} {d} {o} {s} {t} h f = record { is = f.is ∙ sym (enough 257 room o s t (length d) h); room_is = refl }
+put_refused f = record { is = f.is; room_is = refl }
 
 -- Data that was put into the room from the fifth byte on, and then sealed around, is what the packet holds; nothing else is left of it.
 pub sealed_around : (room d : List ℕ) (o s t n : ℕ) → length d + 6 ≤ length room → n ≡ length d →
@@ -143,46 +131,31 @@ filled room d o s t need {r} {size} {room₂} h g e f =
       f.room_is ∙ rw is-written (sealed_around room d o s t (length d) h refl),
     )
 
-pub build_written : {room d part room₂ : List ℕ} {o s t size : ℕ} {r : Result ℕ Refusal} → 257 ≤ length room → Fields o s t (length d) (Ok size) →
+pub put_written : {room d part room₂ : List ℕ} {o s t size : ℕ} {r : Result ℕ Refusal} → length d + 6 ≤ length room → Fields o s t (length d) (Ok size) →
     Copied d (take (length room - 4) (drop 4 room)) part →
-    Fill (take 4 room ++ (part ++ drop (length room - 4) (drop 4 room))) o s t (length d) r room₂ → Build room o s t d r room₂
-build_written {room} {d} {part} {room₂} {o} {s} {t} {size} {r} h f k g =
-    let small = fields_small f in
+    Fill (take 4 room ++ (part ++ drop (length room - 4) (drop 4 room))) o s t (length d) r room₂ → Put room o s t d r room₂
+put_written {room} {d} {part} {room₂} {o} {s} {t} {size} {r} h f k g =
     let long : length (take (length room - 4) (drop 4 room)) ≡ length room - 4 = simp (length-take, length-drop) (omega arith) in
     let there = part_over 4 (length room - 4) d room part (omega arith) (omega arith) (copied_over (omega arith) k) in
-    let done = filled room d o s t 257 (omega arith) h (sym f.is) (rw there at g) in
-    record { is = done.0; room_is = done.1 }
+    let done = filled room d o s t (length d + 6) h h (sym f.is) (rw there at g) in
+    record { is = done.0 ∙ enough (length d + 6) room o s t (length d) h; room_is = done.1 }
 
--- ---- `answer`
+-- ---- `build` and `answer`, in a room that is large enough
+
+pub build_room : {room d : List ℕ} {o s t : ℕ} → length room < 257 → Build room o s t d (Err Room) room
+unfolding written over
+build_room {room} {d} {o} {s} {t} h = record { is = sym (too_little 257 room o s t (length d) h); room_is = refl }
+
+pub build_put : {room room₂ d : List ℕ} {o s t : ℕ} {r : Result ℕ Refusal} → 257 ≤ length room → Put room o s t d r room₂ → Build room o s t d r room₂
+build_put {room} {d = d} {o} {s} {t} h k = record { is = k.is ∙ sym (enough 257 room o s t (length d) h); room_is = k.room_is }
 
 pub answer_room : {room : List ℕ} {s : ℕ} {y : Reply} → length room < 7 → Answer room s y (Err Room) room
 unfolding written over
 answer_room {room} {s} {y} h = record { is = sym (too_little 7 room (reply_opcode y) s 0 (length (reply_data y)) h); room_is = refl }
 
--- An ACK has no data, so the room before it does not matter.
-pub answer_ack : {room room₂ : List ℕ} {s : ℕ} {y : Reply} {r : Result ℕ Refusal} → 7 ≤ length room → y ≡ Ack → Fill room cmd_ack s 0 0 r room₂ → Answer room s y r room₂
-unfolding reply_body reply_opcode reply_data
-answer_ack {room} {room₂} {s} {y} {r} h e f =
-    record {
-      is = f.is ∙ (enough 6 room cmd_ack s 0 0 (omega arith) ∙ (sym (enough 7 room cmd_ack s 0 0 h) ∙ ap (λ (z : Reply). build_of 7 room (reply_opcode z) s 0 (length (reply_data z))) (sym e)));
-      room_is = f.room_is ∙ ap (λ (z : Reply). over (written r (seal (reply_body s z))) room) (sym e);
-    }
-
-pub nak_source : {room : List ℕ} {s c : ℕ} {a : Bool} → 7 ≤ length room → AllowedSource s a → a ≡ false → Answer room s (Nak c) (Err Source) room
-unfolding written over fields_of reply_data
-nak_source {room} {s} {c} h p e =
-    record { is = sym (enough 7 room (reply_opcode (Nak c)) s 0 (length (reply_data (Nak c))) h ∙ simp (sym p.is ∙ e)); room_is = refl }
-
-pub nak_written : {room room₂ : List ℕ} {s c : ℕ} {a : Bool} {r : Result ℕ Refusal} → 7 ≤ length room → AllowedSource s a → a ≡ true →
-    Fill (set room 4 c) cmd_nak s 0 1 r room₂ → Answer room s (Nak c) r room₂
-unfolding reply_body reply_opcode reply_data fields_of status_allowed
-nak_written {room} {room₂} {s} {c} {a} {r} h p e f =
-    let says : fields_of cmd_nak s 0 1 ≡ Ok 7 = simp (sym p.is ∙ e) in
-    let done = filled room (c ∷ []) cmd_nak s 0 7 (omega arith) h says (rw (set_over_at room 4 c (omega arith)) at f) in
-    record { is = done.0; room_is = done.1 }
-
-pub answer_nak : {room room₂ : List ℕ} {s c : ℕ} {y : Reply} {r : Result ℕ Refusal} → y ≡ Nak c → Answer room s (Nak c) r room₂ → Answer room s y r room₂
-answer_nak e k = rw e k
+pub answer_put : {room room₂ : List ℕ} {s : ℕ} {r : Result ℕ Refusal} (y : Reply) → 7 ≤ length room → Put room (reply_opcode y) s 0 (reply_data y) r room₂ → Answer room s y r room₂
+unfolding reply_body
+answer_put {room} {s = s} y h k = record { is = k.is ∙ sym (enough 7 room (reply_opcode y) s 0 (length (reply_data y)) h); room_is = k.room_is }
 
 -- With room enough a reply from an allowed source is never refused, and its length is the packet's.
 built_reply : (room : List ℕ) (s : ℕ) (y : Reply) → source_allowed s ≡ true → 7 ≤ length room →

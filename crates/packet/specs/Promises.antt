@@ -1,10 +1,10 @@
 -- What each call of `packet` promises: its answer, and every byte of the room it was lent.
-use Rattle.std.specs.Prelude.{ℕ, ◌+◌, ◌≤◌, Bool, List, [], ◌∷◌, ◌≡◌, length, take, drop, Result}
+use Rattle.std.specs.Prelude.{ℕ, ◌+◌, ◌%◌, ◌≤◌, Bool, List, [], ◌∷◌, ◌≡◌, length, take, drop, Result}
 use Rattle.words.specs.Lists.{over}
 use Rattle.packet.specs.declared.Refusal.{Refusal}
 use Rattle.packet.specs.declared.Head.{Head}
 use Rattle.packet.specs.declared.Reply.{Reply}
-use Rattle.packet.specs.Packet.{body_of, sum_of, seal, data_in, check_of, status_allowed, source_allowed, fields_of, build_of, written, size_of, reply_data, reply_opcode, reply_body, unmarked, equal_unmarked, resent_equal, is_answer}
+use Rattle.packet.specs.Packet.{body_of, sum_of, checksum_of, seal, data_in, check_of, status_allowed, source_allowed, fields_of, build_of, written, size_of, reply_data, reply_opcode, reply_body, unmarked, equal_unmarked, resent_equal, is_answer}
 use Rattle.packet.specs.Refusals.{number_of, cause_of, nak_bytes, nak_of}
 use Rattle.packet.specs.Sizes.{packet_size, answer_size}
 
@@ -17,6 +17,10 @@ pub record Cause (refusal : Refusal) (r : ℕ) : Type 0 where
 pub record Sum (s : List ℕ) (r : ℕ) : Type 0 where
   pub is : r ≡ sum_of s
   pub most : r ≤ 65025
+
+-- The checksum in two bytes.
+pub record Complement (s : List ℕ) (r : ℕ) : Type 0 where
+  pub is : r ≡ checksum_of s % 65536
 
 pub record Check (s : List ℕ) (r : Result Head Refusal) : Type 0 where
   pub is : r ≡ check_of s
@@ -46,6 +50,11 @@ pub record SizeOf (b : Result ℕ Refusal) (r : ℕ) : Type 0 where
 -- `build`: the data is lent beside the room.
 pub record Build (room : List ℕ) (opcode source status : ℕ) (carried : List ℕ) (r : Result ℕ Refusal) (room' : List ℕ) : Type 0 where
   pub is : r ≡ build_of packet_size room opcode source status (length carried)
+  pub room_is : room' ≡ over (written r (seal (body_of opcode source status carried))) room
+
+-- The same where the room is known to hold the packet.
+pub record Put (room : List ℕ) (opcode source status : ℕ) (carried : List ℕ) (r : Result ℕ Refusal) (room' : List ℕ) : Type 0 where
+  pub is : r ≡ fields_of opcode source status (length carried)
   pub room_is : room' ≡ over (written r (seal (body_of opcode source status carried))) room
 
 -- `fill`: the data, n bytes, already stands in the room from the fifth byte on.

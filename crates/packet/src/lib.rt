@@ -2,8 +2,8 @@
 #![tactic(auto)]
 
 ghost use Rattle.std.specs.Prelude.{◌+◌, ◌≤◌, length};
-ghost use Rattle.packet.specs.Promises.{Number, Cause, Sum, Check, DataPart, Allowed, AllowedSource, Fields, Headed, Sealed, SizeOf, Build, Fill, Answer, Naks, Equal, Resent, IsAnswer};
-ghost use Rattle.packet.specs.Sizes.{head_size, checksum_size, data_size, body_size, answer_size};
+ghost use Rattle.packet.specs.Promises.{Number, Cause, Sum, Complement, Check, DataPart, Allowed, AllowedSource, Fields, Headed, Sealed, SizeOf, Build, Put, Fill, Answer, Naks, Equal, Resent, IsAnswer};
+ghost use Rattle.packet.specs.Sizes.{head_size, checksum_size, data_size, body_size};
 
 use words::wide;
 
@@ -56,7 +56,7 @@ pub const SCAN_ENABLE: u8 = 0xE9;
 pub const SCAN_DISABLE: u8 = 0xEA;
 
 // Why a call or a packet is refused, with the numbers by which it is told.
-#[derive(Clone, Copy)]
+#[derive(Clone, Copy, PartialEq, Eq)]
 pub enum Refusal {
     // length below 4
     Length = 1,
@@ -124,103 +124,97 @@ pub fn cause(refusal: Refusal) -> u8
 }
 
 // The byte sum of a body. Two bytes hold it, and in two bytes the compiler sums sixteen bytes at a time.
-fn sum(s: &[u8]) -> usize
+fn sum(s: &[u8]) -> u16
     requires { length s.now ≤ body_size }
     ensures { Sum s.now result }
 {
-    let mut total: u16 = 0;
-    let mut i = 0;
-    while i < s.len() {
-        total += s[i] as u16;
-        i += 1;
+    let mut total = 0;
+    for byte in s {
+        total += u16::from(*byte);
     }
-    total as usize
+    total
+}
+
+// The checksum of a body: the two's complement of its byte sum.
+fn checksum(s: &[u8]) -> u16
+    requires { length s.now ≤ body_size }
+    ensures { Complement s.now result }
+{
+    sum(s).wrapping_neg()
 }
 
 // Judges the front of the bytes it is lent; later bytes aren't read.
+#[tactic(auto, unfolding(crate::specs::Packet::check_of, crate::specs::Packet::head_in, crate::specs::Packet::checksum_in, crate::specs::Packet::body_in, crate::specs::Packet::checksum_of))]
 pub fn check(s: &[u8]) -> Result<Head, Refusal>
     ensures { Check s.now result }
 {
-    if s.len() == 0 {
+    if s.is_empty() {
         return Err(Refusal::Cut);
     }
     let n = wide(s[0]);
-    if n < 4 {
+    if n < HEAD_SIZE {
         return Err(Refusal::Length);
     }
-    if s.len() < n + 2 {
+    if s.len() < n + CHECKSUM_SIZE {
         return Err(Refusal::Cut);
     }
-    let found = wide(s[n]) * 256 + wide(s[n + 1]);
-    let worked = 65536 - sum(&s[..n]);
-    if found == worked {
-        return Ok(Head {
-            length: n,
-            opcode: s[1],
-            source: s[2],
-            status: s[3],
-        });
+    let found = u16::from_be_bytes([s[n], s[n + 1]]);
+    if found != checksum(&s[..n]) {
+        return Err(Refusal::Checksum);
     }
-    Err(Refusal::Checksum)
+    Ok(Head {
+        length: n,
+        opcode: s[1],
+        source: s[2],
+        status: s[3],
+    })
 }
 
 // The data of the packet at the front of these bytes: the part that starts at the fifth byte.
 pub fn data_part(s: &[u8]) -> &[u8]
     ensures { DataPart s.now result.now }
 {
-    if s.len() < 4 {
+    if s.len() < HEAD_SIZE {
         return &s[..0];
     }
-    let n = wide(s[0]);
-    if n < 4 {
-        return &s[..0];
-    }
-    if s.len() < n {
-        return &s[4..];
-    }
-    &s[4..n]
+    let end = wide(s[0]).clamp(HEAD_SIZE, s.len());
+    &s[HEAD_SIZE..end]
 }
 
 // Whether these status bits are allowed with this opcode.
+#[tactic(auto, unfolding(crate::specs::Packet::status_allowed))]
 pub fn status_allowed(opcode: u8, status: u8) -> bool
     ensures { Allowed opcode status result }
 {
-    if status / 4 % 2 != 0 {
+    if status / 4 % 2 != 0 || status / 16 != 0 {
         return false;
     }
-    if status / 16 != 0 {
-        return false;
-    }
-    if status / 2 % 2 == 0 {
-        return true;
-    }
-    opcode == DECODE_DATA
+    status / 2 % 2 == 0 || opcode == DECODE_DATA
 }
 
 // Whether this is one of the two sources.
+#[tactic(auto, unfolding(crate::specs::Packet::source_allowed))]
 pub fn source_allowed(source: u8) -> bool
     ensures { AllowedSource source result }
 {
-    if source == READER {
-        return true;
-    }
-    source == HOST
+    matches!(source, READER | HOST)
 }
 
 // What building says of a packet's fields.
+#[tactic(auto, unfolding(crate::specs::Packet::fields_of))]
 fn fields(opcode: u8, source: u8, status: u8, n: usize) -> Result<usize, Refusal>
     ensures { Fields opcode source status n result }
 {
-    if source_allowed(source) {
-        if status_allowed(opcode, status) {
-            if n <= DATA_SIZE {
-                return Ok(n + 6);
-            }
-            return Err(Refusal::Data);
-        }
+    if !source_allowed(source) {
+        return Err(Refusal::Source);
+    }
+    if !status_allowed(opcode, status) {
         return Err(Refusal::Status);
     }
-    Err(Refusal::Source)
+    if n > DATA_SIZE {
+        return Err(Refusal::Data);
+    }
+    Ok(n + HEAD_SIZE + CHECKSUM_SIZE)
 }
 
 // The four bytes before the data.
@@ -228,35 +222,28 @@ fn header(room: &mut [u8], opcode: u8, source: u8, status: u8, n: usize)
     requires { (n ≤ data_size) × (head_size ≤ length room.old) }
     ensures { Headed room.old opcode source status n room.new }
 {
-    room[0] = ((n + 4) % 256) as u8;
-    room[1] = opcode;
-    room[2] = source;
-    room[3] = status;
+    room[..HEAD_SIZE].copy_from_slice(&[(n + HEAD_SIZE) as u8, opcode, source, status]);
 }
 
 // The two bytes after a body of n bytes.
-fn checksum(room: &mut [u8], n: usize)
+fn seal(room: &mut [u8], n: usize)
     requires { (n ≤ body_size) × (n + checksum_size ≤ length room.old) }
     ensures { Sealed room.old n room.new }
 {
-    let worked = 65536 - sum(&room[..n]);
-    room[n] = (worked / 256 % 256) as u8;
-    room[n + 1] = (worked % 256) as u8;
+    let worked = checksum(&room[..n]);
+    room[n..n + CHECKSUM_SIZE].copy_from_slice(&worked.to_be_bytes());
 }
 
 // Header and checksum around n bytes of data that already stand in the room from the fifth byte on.
 pub fn fill(room: &mut [u8], opcode: u8, source: u8, status: u8, n: usize) -> Result<usize, Refusal>
     ensures { Fill room.old opcode source status n result room.new }
 {
-    if room.len() < 6 {
-        return Err(Refusal::Room);
-    }
-    if room.len() - 6 < n {
+    if room.len() < 6 || room.len() - 6 < n {
         return Err(Refusal::Room);
     }
     let size = fields(opcode, source, status, n)?;
     header(room, opcode, source, status, n);
-    checksum(room, n + 4);
+    seal(room, n + HEAD_SIZE);
     Ok(size)
 }
 
@@ -273,8 +260,16 @@ pub fn build(
     if room.len() < PACKET_SIZE {
         return Err(Refusal::Room);
     }
+    put(room, opcode, source, status, data)
+}
+
+// The same in a room that holds the packet, where there is one: nothing is put into the room before its fields are judged.
+fn put(room: &mut [u8], opcode: u8, source: u8, status: u8, data: &[u8]) -> Result<usize, Refusal>
+    requires { (head_size ≤ length room.old) × (length «data».now ≤ data_size → length «data».now + 6 ≤ length room.old) }
+    ensures { Put room.old opcode source status «data».now result room.new }
+{
     fields(opcode, source, status, data.len())?;
-    words::copy(data, &mut room[4..]);
+    words::copy(data, &mut room[HEAD_SIZE..]);
     fill(room, opcode, source, status, data.len())
 }
 
@@ -282,10 +277,7 @@ pub fn build(
 pub fn size_of(built: Result<usize, Refusal>) -> usize
     ensures { SizeOf built result }
 {
-    match built {
-        Ok(size) => size,
-        Err(_) => 0,
-    }
+    built.unwrap_or(0)
 }
 
 // An answer of either side: CMD_ACK, or CMD_NAK with its cause.
@@ -296,8 +288,8 @@ pub fn answer(room: &mut [u8], source: u8, reply: Reply) -> Result<usize, Refusa
         return Err(Refusal::Room);
     }
     match reply {
-        Reply::Ack => fill(room, CMD_ACK, source, 0, 0),
-        Reply::Nak(cause) => with_cause(room, source, cause),
+        Reply::Ack => put(room, CMD_ACK, source, 0, &[]),
+        Reply::Nak(cause) => put(room, CMD_NAK, source, 0, &[cause]),
     }
 }
 
@@ -312,18 +304,7 @@ pub fn nak(room: &mut [u8], source: u8, refusal: Refusal) -> Result<usize, Refus
     if cause == 0 {
         return Ok(0);
     }
-    with_cause(room, source, cause)
-}
-
-fn with_cause(room: &mut [u8], source: u8, cause: u8) -> Result<usize, Refusal>
-    requires { answer_size ≤ length room.old }
-    ensures { Answer room.old source (Reply.Nak cause) result room.new }
-{
-    if source_allowed(source) {
-        room[4] = cause;
-        return fill(room, CMD_NAK, source, 0, 1);
-    }
-    Err(Refusal::Source)
+    answer(room, source, Reply::Nak(cause))
 }
 
 // Whether two bodies are equal apart from the resend mark; compared where they stand.
@@ -333,36 +314,23 @@ pub fn equal_unmarked(a: &[u8], b: &[u8]) -> bool
     if a.len() != b.len() {
         return false;
     }
-    if a.len() < 4 {
-        return words::same(a, b);
+    if a.len() < HEAD_SIZE {
+        return a == b;
     }
-    if words::same(&a[..3], &b[..3]) {
-        if a[3] / 2 == b[3] / 2 {
-            return words::same(&a[4..], &b[4..]);
-        }
-    }
-    false
+    a[..3] == b[..3] && a[3] / 2 == b[3] / 2 && a[4..] == b[4..]
 }
 
 // Whether a body is marked and equal to the last accepted one apart from the mark.
 pub fn resent_equal(last: &[u8], body: &[u8]) -> bool
     ensures { Resent last.now body.now result }
 {
-    if body.len() < 4 {
-        return false;
-    }
-    if body[3] % 2 == 1 {
-        return equal_unmarked(last, body);
-    }
-    false
+    body.len() >= HEAD_SIZE && body[3] % 2 == 1 && equal_unmarked(last, body)
 }
 
 // Whether this is the opcode of an answer.
+#[tactic(auto, unfolding(crate::specs::Packet::is_answer))]
 pub fn is_answer(opcode: u8) -> bool
     ensures { IsAnswer opcode result }
 {
-    if opcode == CMD_ACK {
-        return true;
-    }
-    opcode == CMD_NAK
+    matches!(opcode, CMD_ACK | CMD_NAK)
 }

@@ -8,19 +8,16 @@ use Rattle.packet.proofs.fill.Goals as goal
 pub returns-then-room-lt6 : goal.returns-then-room-lt6
 returns-then-room-lt6 c = fill_room (omega arith)
 
-pub returns-then-room-n : goal.returns-then-room-n
-returns-then-room-n c = fill_room (omega arith)
-
 pub returns-in_err-size : goal.returns-in_err-size
-returns-in_err-size c = let p = err_from_is_err_and c.from_residual.result c.from_residual.ensures.1 in rw (p.1, p.2) (fill_refused (omega arith) c.in_err-size.ensures)
+returns-in_err-size c =
+    let p = err_from_is_err_and c.from_residual.result c.from_residual.ensures.1 in
+    rw (p.1, p.2) (fill_refused (omega arith) c.in_err-size.ensures)
 
 pub header-requires : goal.header-requires
-header-requires c = let small = fields_small c.in_ok-size.ensures in
-    omega arith
+header-requires c = let small = fields_small c.in_ok-size.ensures in omega arith
 
-pub checksum-requires : goal.checksum-requires
-checksum-requires c = let small = fields_small c.in_ok-size.ensures in
-    omega arith
+pub seal-requires : goal.seal-requires
+seal-requires c = let small = fields_small c.in_ok-size.ensures in omega arith
 
 pub returns : goal.returns
-returns c = fill_written (omega arith) c.in_ok-size.ensures c.header.ensures refl c.checksum.ensures
+returns c = fill_written (omega arith) c.in_ok-size.ensures c.header.ensures refl c.seal.ensures

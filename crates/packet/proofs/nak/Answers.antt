@@ -10,4 +10,4 @@ pub returns-then-cause-eq0 : goal.returns-then-cause-eq0
 returns-then-cause-eq0 c = nak_silent (omega arith) c.cause-cause.ensures c.if-cause-eq0.true
 
 pub returns : goal.returns
-returns c = nak_said (omega arith) c.cause-cause.ensures c.if-cause-eq0.false c.with_cause.ensures
+returns c = nak_said (omega arith) c.cause-cause.ensures c.if-cause-eq0.false c.answer.ensures
