@@ -10,7 +10,7 @@ use native.Mathlib.Omega.{arith}
 use lib.ListN.{length, get_or, take, drop, set, length-append, length-take, length-drop, length-set, take-append-drop, get_or-append}
 use lib.Seq.{length-take-le, get_or-take, take-length, drop-length, set_split, drop-set-add, take-set-lt, take-suc-set}
 use lib.Dec.{eqb, ltb}
-use borrow.Author.Tests.{eq-eqb, ne_eqb, eqb-true, eqb-false, ltb-true, ltb-false}
+use borrow.Author.Tests.{eqb-true, eqb-false, ltb-true, ltb-false}
 use Rattle.words.specs.Lists.{pick, Bytes, Copied, over_at}
 use Rattle.words.specs.Machine.{after, through}
 use Rattle.words.proofs.Lists.{bytes_take, bytes_drop, bytes_append, bytes_cons, bytes_head, bytes_tail, set_over_at, over_at_behind, rest_part, part_over, copied_over}
@@ -180,12 +180,6 @@ next_tells got (y ∷ ys) h = simp (told (h (omega arith)))
     told (inr l) = let e = size in let first = first_of got ys y in whole_told_lem s (omega arith)
 
 -- ---- one law for each answer
-
-pub length_stands : {n w : ℕ} {line bytes : List ℕ} → (n ≡ 0 → ⊥) → w ≡ get_or line 0 0 → w < 256 → LengthOf n line bytes w
-length_stands {n} some e l = record { is = simp (ne_eqb n 0 some) e; small = l }
-
-pub length_comes : {n w : ℕ} {line bytes : List ℕ} → n ≡ 0 → w ≡ get_or bytes 0 0 → w < 256 → LengthOf n line bytes w
-length_comes {n} z e l = record { is = simp (eq-eqb n 0 z) e; small = l }
 
 module _ {n w : ℕ} {line bytes : List ℕ} (k : LengthOf n line bytes w) where
   pub inside_left : (w < n) ⊎ ((n ≤ w) × (w < 4)) → InsideOf n line bytes 0

@@ -18,15 +18,14 @@ use Rattle.packet.specs.Refusals.{number_of}
 use Rattle.packet.specs.Promises.{Check}
 use Rattle.packet.specs.Sizes.{packet_size}
 use Rattle.packet.specs.declared.Refusal.{Refusal}
-use Rattle.packet.specs.declared.Refusal.TheVariants.{Length, Checksum, Cut, Source, Status, Opcode, Data, Beep, Setting, Barred, Start, Form, Room, Long}
+use Rattle.packet.specs.declared.Refusal.TheVariants.{Cut, Room}
 use Rattle.packet.specs.declared.Head.{Head}
 use Rattle.packet.proofs.Theorems.{accepted, accepted_head}
 use Rattle.framer.specs.Framer.{hearing, deaf, judged, at_gap, at_byte, framer_step}
-use Rattle.framer.specs.Promises.{begun_of, line_of, control_of, found_of, stored_of, framed_of, line_after, Idle, Deaf, Ended, Begun, Gap, Unfinished, Frames}
+use Rattle.framer.specs.Promises.{begun_of, line_of, control_of, found_of, stored_of, framed_of, line_after, Deaf, Ended, Begun, Gap, Unfinished, Frames}
 use Rattle.framer.specs.declared.Event.{Event}
 use Rattle.framer.specs.declared.Event.TheVariants.{Byte, CharacterGap, MessageGap}
 use Rattle.framer.specs.declared.Framer.{Framer}
-use Rattle.framer.specs.declared.Found.{Found}
 use Rattle.framer.specs.declared.Found.TheVariants.{Nothing, Packet, Refused}
 use Rattle.framer.specs.declared.Framed.{Framed}
 
@@ -38,9 +37,6 @@ pub begun_none : {f : Framer} → packet_size ≤ f.count → Begun f 0
 unfolding begun_of
 begun_none {f} h = record { is = simp (le-ltb f.count packet_size h); most = omega arith }
 
-pub ended_idle : {i : Framer} {found : Found} → Idle i → Ended found (record { framer = i; found = found })
-ended_idle idle = record { is = rw idle.is refl }
-
 module _ {f : Framer} {r : Framed} where
   pub gap_deaf : f.deaf ≡ true → Ended Nothing r → Gap f r
   gap_deaf e k = record { is = k.is ∙ simp e }
@@ -51,29 +47,6 @@ module _ {f : Framer} {r : Framed} where
 
     pub gap_cut : (n ≡ 0 → ⊥) → Ended (Refused Cut) r → Gap f r
     gap_cut z k = record { is = k.is ∙ simp (e, sym begun.is, ne_eqb n 0 z) }
-
-pub unfinished_short : {r : Refusal} {count : ℕ} → r ≡ Cut → Unfinished r count (record { framer = record { count = count; deaf = false }; found = Nothing })
-unfinished_short e = record { is = rw e refl }
-
--- Only too few bytes have number 3.
-other_number : (r : Refusal) → (r ≡ Cut → ⊥) → eqb (number_of r) 3 ≡ false
-other_number Length h = refl
-other_number Checksum h = refl
-other_number Cut h = absurd (h refl)
-other_number Source h = refl
-other_number Status h = refl
-other_number Opcode h = refl
-other_number Data h = refl
-other_number Beep h = refl
-other_number Setting h = refl
-other_number Barred h = refl
-other_number Start h = refl
-other_number Form h = refl
-other_number Room h = refl
-other_number Long h = refl
-
-pub unfinished_deaf : {r : Refusal} {count : ℕ} {f : Framer} → (r ≡ Cut → ⊥) → Deaf f → Unfinished r count (record { framer = f; found = Refused r })
-unfinished_deaf {r} h k = record { is = rw k.is (simp (other_number r h)) }
 
 -- ---- a line buffer that is long enough
 

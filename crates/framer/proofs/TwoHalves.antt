@@ -21,15 +21,11 @@ use Rattle.framer.specs.declared.Listened.{Listened}
 use Rattle.framer.proofs.Outcomes.{brings, found_is, view_is, view_idle, told_nothing, told_refused, told_packet}
 use Rattle.framer.proofs.Steps.{stored}
 use Rattle.framer.proofs.Theorems.{length_after}
-use Rattle.framer.specs.Promises.{found_of, framed_of, line_after, Idle, Frames}
-use Rattle.framer.specs.Halves.{line_size, place_of, half_of, last_of, line_in, kept_in, accepted_of, received_in, listened_of, buffer_after, IdleHalves, Listens, moved_of, Received, Kept, Place, Last}
+use Rattle.framer.specs.Promises.{found_of, framed_of, line_after, Frames}
+use Rattle.framer.specs.Halves.{line_size, place_of, half_of, last_of, line_in, kept_in, accepted_of, received_in, listened_of, buffer_after, Listens, moved_of, Received, Kept, Place, Last}
 use Rattle.framer.specs.declared.Event.{Event}
-use Rattle.framer.specs.declared.Framer.{Framer}
 use Rattle.framer.specs.declared.Framed.{Framed}
 use Rattle.framer.specs.declared.Halves.{Halves}
-
-pub idle_halves_is : {i : Framer} → Idle i → IdleHalves (record { framer = i; second = false; last = 0 })
-idle_halves_is k = record { is = rw k.is refl }
 
 pub place_second : {s : Bool} → s ≡ true → Place s packet_size
 unfolding place_of

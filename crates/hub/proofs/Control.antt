@@ -2,6 +2,7 @@
 use Prim.Native.Nat.{ℕ, ◌≤◌, ◌<◌}
 use mathlib.Core.Path.{◌≡◌, refl, sym, ◌∙◌}
 use mathlib.Core.Bool.{Bool, true, false, not}
+use mathlib.Core.Logic.{◌⊎◌, inl, inr}
 use mathlib.Core.List.{List, [], ◌∷◌}
 use native.Mathlib.Omega.{arith}
 use lib.Dec.{eqb}
@@ -23,7 +24,7 @@ use Rattle.packet.proofs.Writing.{reply_written, reply_never, nak_length, nak_ne
 use Rattle.framer.specs.Halves.{IdleHalves, AcceptsLast}
 use Rattle.framer.specs.declared.Halves.{Halves}
 use Rattle.hub.specs.Joiner.{Output, answered, refusing}
-use Rattle.hub.specs.Promises.{answer_of, message_of, hub_answer_size, Closed, SwitchedOn, Gatherings, sound_of, Within, OtherType, Bars, accepts_name, Accepts, Stays, Settles, Writes, name_bytes}
+use Rattle.hub.specs.Promises.{answer_of, message_of, hub_answer_size, Closed, SwitchedOn, Gatherings, sound_of, Within, OtherType, Bars, Accepts, Stays, Settles, Writes, name_bytes}
 use Rattle.hub.specs.declared.Gathering.{Gathering}
 use Rattle.hub.specs.declared.Told.{Told}
 use Rattle.hub.specs.declared.Told.TheVariants as told
@@ -49,7 +50,7 @@ bars k = record { is = rw k.is refl }
 pub switched : {h : Halves} {g : Gathering} → IdleHalves h → Closed false g → SwitchedOn (record { line = h; gathering = g })
 switched i k = record { is = rw (i.is, k.is) refl }
 
-pub sound_begun : {g : Gathering} {n : ℕ} → g.begun ≡ true → Within g.count n → Gatherings g (record { barred = g.barred; begun = true; code = g.code; count = n })
+pub sound_begun : {g : Gathering} {n : ℕ} → g.begun ≡ true → Within g.count n → Gatherings g (record { barred = g.barred; begun = g.begun; code = g.code; count = n })
 unfolding sound_of
 sound_begun e w =
     record {
@@ -61,8 +62,16 @@ pub sound_closed : {g r : Gathering} → g.begun ≡ false → Closed g.barred r
 unfolding sound_of
 sound_closed e k = record { is = k.is ∙ simp e; sound = rw k.is (record { few = omega arith; closed = λ f. (refl, refl) }) }
 
-pub accepts_by : {t u : Told} {r : Bool} → t ≡ u → r ≡ accepts_name u → Accepts t r
-accepts_by e q = record { is = rw e q }
+pub accepts_some : {t : Told} → (t ≡ told.Added) ⊎ ((code : ℕ) × (count : ℕ) × (t ≡ told.Message code count)) → Accepts t true
+accepts_some (inl e) = record { is = rw e refl }
+accepts_some (inr (code, count, e)) = record { is = rw e refl }
+
+pub accepts_none : {t : Told} → (t ≡ told.Added → ⊥) → ((code count : ℕ) → t ≡ told.Message code count → ⊥) → Accepts t false
+accepts_none {t = told.Nothing} a m = record { is = refl }
+accepts_none {t = told.Added} a m = absurd (a refl)
+accepts_none {t = told.Repeated} a m = record { is = refl }
+accepts_none {t = told.Message code count} a m = absurd (m code count refl)
+accepts_none {t = told.Refused r} a m = record { is = refl }
 
 module _ {h h' : Halves} {n : ℕ} {joined : Joined} {a : Bool} {r : Stepped} (p : Accepts joined.told a) where
   pub settles_accepted : a ≡ true → AcceptsLast h n h' → Stays h' joined.gathering joined.told r → Settles h n joined r
@@ -89,8 +98,14 @@ pub replies_nothing : {t : Told} {room : List ℕ} → t ≡ told.Nothing → Wr
 unfolding over
 replies_nothing e = rw e (record { is = refl; answer_is = refl })
 
-pub replies : {t u : Told} {room room' : List ℕ} {n : ℕ} → t ≡ u → Writes (name_bytes u) room n room' → Writes (name_bytes t) room n room'
-replies e w = rw e w
+pub replies_ack : {t : Told} {room room' : List ℕ} {n : ℕ} → (t ≡ told.Added) ⊎ ((t ≡ told.Repeated) ⊎ ((code : ℕ) × (count : ℕ) × (t ≡ told.Message code count))) →
+    Writes (seal (reply_body host Ack)) room n room' → Writes (name_bytes t) room n room'
+replies_ack (inl e) w = rw e w
+replies_ack (inr (inl e)) w = rw e w
+replies_ack (inr (inr (code, count, e))) w = rw e w
+
+pub replies_nak : {t : Told} {x : Refusal} {room room' : List ℕ} {n : ℕ} → t ≡ told.Refused x → Writes (nak_bytes host x) room n room' → Writes (name_bytes t) room n room'
+replies_nak e w = rw e w
 
 -- ---- what is told of a refusal
 

@@ -1,14 +1,15 @@
 -- The level of the whole hub: what the framer found goes to the joiner, and control value and buffers stand for the next state. Assumes nothing.
-use Prim.Native.Nat.{ℕ, ◌≤◌, ◌<◌}
+use Prim.Native.Nat.{ℕ, ◌+◌, ◌≤◌, ◌<◌}
 use mathlib.Core.Path.{◌≡◌, refl, sym, ap, ◌∙◌}
 use mathlib.Core.Bool.{Bool, true, false}
-use mathlib.Core.List.{List, []}
+use mathlib.Core.List.{List, [], ◌++◌}
 use native.Mathlib.Omega.{arith}
-use lib.ListN.{length, length-take}
+use lib.ListN.{length, take, drop, length-take, length-drop, length-append}
+use lib.Seq.{length-take-le}
 use borrow.Author.Tests.{le-leb, le-ltb, lt-ltb}
-use Rattle.words.specs.Lists.{pick, over}
+use Rattle.words.specs.Lists.{pick, over, over_at}
 use Rattle.words.specs.Machine.{Done, through}
-use Rattle.words.proofs.Lists.{take_over, over_nil, never}
+use Rattle.words.proofs.Lists.{take_over, over_nil, never, part_over}
 use Rattle.words.proofs.Machine.{through_one}
 use Rattle.packet.specs.Packet.{unmarked}
 use Rattle.packet.specs.Sizes.{body_size, message_size}
@@ -186,15 +187,31 @@ cleared_state (Byte b) hub line gather s q = q
 cleared_state CharacterGap hub line gather s q = q
 cleared_state MessageGap hub line gather s q = refl
 
-pub hear_taken : {hub : Hub} {line gather answer message line' gather' answer' message' : List ℕ} {e : Event} {s : Stepped} {count : ℕ} {next : Hub} →
+-- The front of a room was lent, and came back with q at its own front.
+front_over : (k : ℕ) (q room part : List ℕ) → k ≤ length room → length (part ++ drop k room) ≡ length room → part ≡ over q (take k room) → part ++ drop k room ≡ over q room
+unfolding over over_at
+front_over k q room part h l e = part_over 0 k q room part fits (omega arith) e
+  where
+    fits : length q ≤ k
+    fits =
+        let long : length (over q (take k room)) ≡ length q + length (drop (length q) (take k room)) = length-append q (drop (length q) (take k room)) in
+        let whole : length (take k room) ≡ k = length-take-le k room h in
+        let same = ap length e in
+        let all = length-append part (drop k room) in
+        let rest = length-drop k room in
+        omega arith
+
+pub hear_taken : {hub : Hub} {line gather answer message room line' gather' answer' room' : List ℕ} {e : Event} {s : Stepped} {count : ℕ} {next : Hub} →
     hub_answer_size ≤ length answer →
     message_size ≤ length message →
-    Steps hub line gather message e s line' gather' message' →
+    room ≡ take message_size message →
+    length (room' ++ drop message_size message) ≡ length message →
+    Steps hub line gather room e s line' gather' room' →
     Writes (name_bytes s.told) answer count answer' →
     Cleared s.hub e next →
-    Hears hub line gather answer message e (record { hub = next; told = s.told; answer = count }) line' gather' answer' message'
+    Hears hub line gather answer message e (record { hub = next; told = s.told; answer = count }) line' gather' answer' (room' ++ drop message_size message)
 unfolding too_small hub_step framed
-hear_taken {hub} {line} {gather} {answer} {message} {line'} {gather'} {answer'} {message'} {e} {s} {count} {next} a m steps writes clears =
+hear_taken {hub} {line} {gather} {answer} {message} {room} {line'} {gather'} {answer'} {room'} {e} {s} {count} {next} a m front long steps writes clears =
     let p = le-ltb (length answer) hub_answer_size a in
     let q = le-ltb (length message) message_size m in
     let ts = (framed heard_step (state_of hub line gather) e).told in
@@ -205,5 +222,5 @@ hear_taken {hub} {line} {gather} {answer} {message} {line'} {gather'} {answer'} 
       line_is = simp (p, q) steps.line_is;
       gather_is = simp (p, q) steps.gather_is;
       answer_is = simp (p, q) (writes.answer_is ∙ ap (λ (b : List ℕ). over b answer) name);
-      message_is = simp (p, q) steps.message_is;
+      message_is = simp (p, q) (front_over message_size (message_of ts) message room' m long (rw front at steps.message_is));
     }

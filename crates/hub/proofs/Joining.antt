@@ -87,28 +87,28 @@ bars_joins j {message = message} e b =
 -- ---- pieces
 
 -- A piece copied into the room behind `at` bytes.
-behind : (at : ℕ) (piece room part : List ℕ) → at + length piece ≤ length room → Copied piece (take (length room - at) (drop at room)) part →
-    take at room ++ (part ++ drop (length room - at) (drop at room)) ≡ over_at at piece room
-behind at piece room part h k =
-    let long : length (take (length room - at) (drop at room)) ≡ length room - at = simp (length-take, length-drop) (omega arith) in
-    part_over at (length room - at) piece room part (omega arith) (omega arith) (copied_over (omega arith) k)
+behind : (at : ℕ) (piece room part : List ℕ) → length room ≡ message_size → at + length piece ≤ message_size → Copied piece (take (message_size - at) (drop at room)) part →
+    take at room ++ (part ++ drop (message_size - at) (drop at room)) ≡ over_at at piece room
+behind at piece room part size h k =
+    let long : length (take (message_size - at) (drop at room)) ≡ message_size - at = simp (length-take, length-drop) (omega arith) in
+    part_over at (message_size - at) piece room part (omega arith) (omega arith) (copied_over (omega arith) k)
 
-pub keeps : {code at : ℕ} {piece gather part : List ℕ} → at + length piece ≤ length gather → Copied piece (take (length gather - at) (drop at gather)) part →
+pub keeps : {code at : ℕ} {piece gather part : List ℕ} → length gather ≡ message_size → at + length piece ≤ message_size → Copied piece (take (message_size - at) (drop at gather)) part →
     Keeps code at piece gather (record { gathering = record { barred = false; begun = true; code = code; count = at + length piece }; told = told.Added })
-    (take at gather ++ (part ++ drop (length gather - at) (drop at gather)))
-keeps {code} {at} {piece} {gather} {part} h k = record { is = refl; gather_is = behind at piece gather part h k }
+    (take at gather ++ (part ++ drop (message_size - at) (drop at gather)))
+keeps {code} {at} {piece} {gather} {part} long h k = record { is = refl; gather_is = behind at piece gather part long h k }
 
-pub hands_out_lem : {code at : ℕ} {piece gather message message₁ part : List ℕ} {g : Gathering} → at ≤ length gather → at + length piece ≤ length message →
-    Copied (take at gather) message message₁ → Copied piece (take (length message₁ - at) (drop at message₁)) part → Closed false g →
+pub hands_out_lem : {code at : ℕ} {piece gather message message₁ part : List ℕ} {g : Gathering} → length gather ≡ message_size → length message ≡ message_size → at + length piece ≤ message_size →
+    Copied (take at gather) message message₁ → Copied piece (take (message_size - at) (drop at message₁)) part → Closed false g →
     HandsOut code at piece gather message (record { gathering = g; told = told.Message code (at + length piece) })
-    (take at message₁ ++ (part ++ drop (length message₁ - at) (drop at message₁)))
-hands_out_lem {code} {at} {piece} {gather} {message} {message₁} {part} h l first second k =
-    let front : length (take at gather) ≡ at = length-take-le at gather h in
+    (take at message₁ ++ (part ++ drop (message_size - at) (drop at message₁)))
+hands_out_lem {code} {at} {piece} {gather} {message} {message₁} {part} h l few first second k =
+    let front : length (take at gather) ≡ at = length-take-le at gather (omega arith) in
     let once : message₁ ≡ over (take at gather) message = copied_over (omega arith) first in
     let long : length message₁ ≡ length message = ap length once ∙ length_over (take at gather) message (omega arith) in
     record {
       is = rw k.is refl;
-      message_is = behind at piece message₁ part (omega arith) second ∙ rw once (over_behind at (take at gather) piece message front);
+      message_is = behind at piece message₁ part (omega arith) (omega arith) second ∙ rw once (over_behind at (take at gather) piece message front);
     }
 
 -- ---- the joining itself

@@ -10,7 +10,7 @@ ghost use Rattle.hub.specs.Joiner.{join_step};
 ghost use Rattle.hub.specs.Hub.{decode_step, packet_step};
 ghost use Rattle.hub.specs.Promises.{hub_answer_size, Closed, SwitchedOn, Hears, NoRoom, Cleared, name_bytes, Writes, Steps, Stays, Receives, Settles, Accepts, Sound, Gatherings, Within, Unchanged, Bars, OtherType, Joins, Adds, Keeps, HandsOut, joiner_of};
 
-use framer::{Event, Found, Halves, LINE_SIZE};
+use framer::{Event, Found, Halves, LINE_SIZE, Listened};
 use packet::{DECODE_DATA, HOST, MESSAGE_SIZE, READER, Refusal, Reply};
 
 // What every event asks of the answer room.
@@ -20,6 +20,7 @@ pub const HUB_ANSWER_SIZE: usize = packet::ANSWER_SIZE;
 pub const BLOCK_SIZE: usize = 4096;
 
 // What is gathered of a message: whether one is begun, its code type, and how many bytes wait in the gather buffer.
+// stays flags and numbers: an exported control value keeps each of its bytes, also ones that no run leaves.
 #[derive(Clone, Copy)]
 pub struct Gathering {
     pub barred: bool,
@@ -36,6 +37,7 @@ pub struct Hub {
 }
 
 // What an event brought.
+// stays an enum: of its five cases three are answered by ACK, so a Result would say no more of them.
 #[derive(Clone, Copy)]
 pub enum Told {
     Nothing,
@@ -55,6 +57,13 @@ pub struct Taken {
     pub told: Told,
     // so many bytes stand in the answer room
     pub answer: usize,
+}
+
+// What is gathered, put in order: the gather buffer holds it, and where no message is begun it is nothing.
+#[derive(Clone, Copy)]
+struct Held {
+    gathering: Gathering,
+    ghost sound: { Sound gathering },
 }
 
 #[derive(Clone, Copy)]
@@ -105,17 +114,15 @@ pub fn hear(
     if answer.len() < HUB_ANSWER_SIZE {
         return no_room(hub);
     }
-    if message.len() < MESSAGE_SIZE {
+    let Some(message) = message.first_chunk_mut::<MESSAGE_SIZE>() else {
         return no_room(hub);
-    }
-    let stepped = step(hub, line, gather, message, event);
-    let told = stepped.told;
-    let count = reply(told, answer);
-    let next = stepped.hub;
+    };
+    let Stepped { hub, told } = step(hub, line, gather, message, event);
+    let answer = reply(told, answer);
     Taken {
-        hub: cleared(next, event),
+        hub: cleared(hub, event),
         told,
-        answer: count,
+        answer,
     }
 }
 
@@ -135,8 +142,7 @@ fn cleared(hub: Hub, event: Event) -> Hub
     ensures { Cleared hub event result }
 {
     match event {
-        Event::Byte(_) => hub,
-        Event::CharacterGap => hub,
+        Event::Byte(_) | Event::CharacterGap => hub,
         Event::MessageGap => switched_on(),
     }
 }
@@ -148,9 +154,7 @@ fn reply(told: Told, answer: &mut [u8]) -> usize
 {
     match told {
         Told::Nothing => 0,
-        Told::Added => acknowledge(answer),
-        Told::Repeated => acknowledge(answer),
-        Told::Message { code: _, count: _ } => acknowledge(answer),
+        Told::Added | Told::Repeated | Told::Message { .. } => acknowledge(answer),
         Told::Refused(refusal) => refuse(refusal, answer),
     }
 }
@@ -173,19 +177,20 @@ fn refuse(refusal: Refusal, answer: &mut [u8]) -> usize
 fn step(
     hub: Hub,
     line: &mut [u8; LINE_SIZE],
-    gather: &mut [u8],
-    message: &mut [u8],
+    gather: &mut [u8; MESSAGE_SIZE],
+    message: &mut [u8; MESSAGE_SIZE],
     event: Event,
 ) -> Stepped
-    requires { (length gather.old ≡ message_size) × (message_size ≤ length message.old) }
     ensures { Steps hub line.old gather.old message.old event result line.new gather.new message.new }
 {
-    let listened = framer::listen(hub.line, line, event);
-    let halves = listened.halves;
-    let found = listened.found;
+    let Listened { halves, found } = framer::listen(hub.line, line, event);
     match found {
         Found::Nothing => stay(halves, hub.gathering, Told::Nothing),
-        Found::Refused(refusal) => stay(halves, sound(hub.gathering), Told::Refused(refusal)),
+        Found::Refused(refusal) => stay(
+            halves,
+            sound(hub.gathering).gathering,
+            Told::Refused(refusal),
+        ),
         Found::Packet(head) => received(
             halves,
             sound(hub.gathering),
@@ -213,18 +218,18 @@ fn stay(halves: Halves, gathering: Gathering, told: Told) -> Stepped
 // A packet of n bytes stands in the half that receives. Where it is accepted it stays there, and the other half receives.
 fn received(
     halves: Halves,
-    gathering: Gathering,
+    held: Held,
     n: usize,
     line: &[u8; LINE_SIZE],
-    gather: &mut [u8],
-    message: &mut [u8],
+    gather: &mut [u8; MESSAGE_SIZE],
+    message: &mut [u8; MESSAGE_SIZE],
 ) -> Stepped
-    requires { Sound gathering × (length gather.old ≡ message_size) × (message_size ≤ length message.old) × (head_size ≤ n) × (n ≤ body_size) }
-    ensures { Receives halves gathering n line.now gather.old message.old result gather.new message.new }
+    requires { (head_size ≤ n) × (n ≤ body_size) }
+    ensures { Receives halves held.gathering n line.now gather.old message.old result gather.new message.new }
 {
     let body = framer::received(halves, line, n);
     let last = framer::kept(halves, line);
-    let joined = judge(gathering, body, last, gather, message);
+    let joined = judge(held, body, last, gather, message);
     settle(halves, n, joined)
 }
 
@@ -232,8 +237,7 @@ fn received(
 fn settle(halves: Halves, n: usize, joined: Joined) -> Stepped
     ensures { Settles halves n joined result }
 {
-    let gathering = joined.gathering;
-    let told = joined.told;
+    let Joined { gathering, told } = joined;
     if accepted(told) {
         return stay(framer::accept(halves, n), gathering, told);
     }
@@ -243,28 +247,24 @@ fn settle(halves: Halves, n: usize, joined: Joined) -> Stepped
 fn accepted(told: Told) -> bool
     ensures { Accepts told result }
 {
-    match told {
-        Told::Nothing => false,
-        Told::Added => true,
-        Told::Repeated => false,
-        Told::Message { code: _, count: _ } => true,
-        Told::Refused(_) => false,
-    }
+    matches!(told, Told::Added | Told::Message { .. })
 }
 
 // Any control value is taken: what the gather buffer cannot hold counts as nothing.
-fn sound(gathering: Gathering) -> Gathering
-    ensures { Gatherings gathering result }
+fn sound(gathering: Gathering) -> Held
+    ensures { Gatherings gathering result.gathering }
 {
     if gathering.begun {
-        return Gathering {
-            barred: gathering.barred,
-            begun: true,
-            code: gathering.code,
-            count: within(gathering.count),
+        return Held {
+            gathering: Gathering {
+                count: within(gathering.count),
+                ..gathering
+            },
         };
     }
-    closed(gathering.barred)
+    Held {
+        gathering: closed(gathering.barred),
+    }
 }
 
 fn within(count: usize) -> usize
@@ -277,31 +277,32 @@ fn within(count: usize) -> usize
 }
 
 // CMD_ACK and CMD_NAK do nothing; else 4 to 7 in rising order, then the joining.
+// stays five parameters here and below: in a struct lent by `&mut` each promise would name them by two steps, `rooms.old.gather.now`.
 fn judge(
-    gathering: Gathering,
+    held: Held,
     body: &[u8],
     last: &[u8],
-    gather: &mut [u8],
-    message: &mut [u8],
+    gather: &mut [u8; MESSAGE_SIZE],
+    message: &mut [u8; MESSAGE_SIZE],
 ) -> Joined
-    requires { Sound gathering × (length gather.old ≡ message_size) × (message_size ≤ length message.old) × (head_size ≤ length body.now) }
-    ensures { Joins (packet_step (joiner_of gathering last.now gather.old) body.now) gather.old message.old result gather.new message.new }
+    requires { head_size ≤ length body.now }
+    ensures { Joins (packet_step (joiner_of held.gathering last.now gather.old) body.now) gather.old message.old result gather.new message.new }
 {
     let opcode = body[1];
     let status = body[3];
     if packet::is_answer(opcode) {
-        return unchanged(gathering, Told::Nothing);
+        return unchanged(held.gathering, Told::Nothing);
     }
     if body[2] != READER {
-        return unchanged(gathering, Told::Refused(Refusal::Source));
+        return unchanged(held.gathering, Told::Refused(Refusal::Source));
     }
-    if packet::status_allowed(opcode, status) {
-        if opcode != DECODE_DATA {
-            return unchanged(gathering, Told::Refused(Refusal::Opcode));
-        }
-        return decode(gathering, body, last, gather, message);
+    if !packet::status_allowed(opcode, status) {
+        return unchanged(held.gathering, Told::Refused(Refusal::Status));
     }
-    unchanged(gathering, Told::Refused(Refusal::Status))
+    if opcode != DECODE_DATA {
+        return unchanged(held.gathering, Told::Refused(Refusal::Opcode));
+    }
+    decode(held, body, last, gather, message)
 }
 
 fn unchanged(gathering: Gathering, told: Told) -> Joined
@@ -312,41 +313,41 @@ fn unchanged(gathering: Gathering, told: Told) -> Joined
 
 // The data, from the fifth byte on, is a code type and a piece.
 fn decode(
-    gathering: Gathering,
+    held: Held,
     body: &[u8],
     last: &[u8],
-    gather: &mut [u8],
-    message: &mut [u8],
+    gather: &mut [u8; MESSAGE_SIZE],
+    message: &mut [u8; MESSAGE_SIZE],
 ) -> Joined
-    requires { Sound gathering × (length gather.old ≡ message_size) × (message_size ≤ length message.old) × (head_size ≤ length body.now) }
-    ensures { Joins (decode_step (joiner_of gathering last.now gather.old) body.now) gather.old message.old result gather.new message.new }
+    requires { head_size ≤ length body.now }
+    ensures { Joins (decode_step (joiner_of held.gathering last.now gather.old) body.now) gather.old message.old result gather.new message.new }
 {
     let data = packet::data_part(body);
     if data.len() == 0 {
-        return unchanged(gathering, Told::Refused(Refusal::Data));
+        return unchanged(held.gathering, Told::Refused(Refusal::Data));
     }
-    join(gathering, body, data, last, gather, message)
+    join(held, body, data, last, gather, message)
 }
 
 // In this order: bar, repeat, type, total.
 fn join(
-    gathering: Gathering,
+    held: Held,
     body: &[u8],
     data: &[u8],
     last: &[u8],
-    gather: &mut [u8],
-    message: &mut [u8],
+    gather: &mut [u8; MESSAGE_SIZE],
+    message: &mut [u8; MESSAGE_SIZE],
 ) -> Joined
-    requires { Sound gathering × (length gather.old ≡ message_size) × (message_size ≤ length message.old) × (head_size ≤ length body.now) × («data».now ≡ data_in body.now) × (1 ≤ length «data».now) }
-    ensures { Joins (join_step (joiner_of gathering last.now gather.old) body.now) gather.old message.old result gather.new message.new }
+    requires { (head_size ≤ length body.now) × («data».now ≡ data_in body.now) × (1 ≤ length «data».now) }
+    ensures { Joins (join_step (joiner_of held.gathering last.now gather.old) body.now) gather.old message.old result gather.new message.new }
 {
-    if gathering.barred {
+    if held.gathering.barred {
         return bar();
     }
     if packet::resent_equal(last, body) {
-        return unchanged(gathering, Told::Repeated);
+        return unchanged(held.gathering, Told::Repeated);
     }
-    add(gathering, body, data, gather, message)
+    add(held, body, data, gather, message)
 }
 
 // Refusal 10 drops what was gathered and bars the hub.
@@ -360,18 +361,18 @@ fn bar() -> Joined
 }
 
 fn add(
-    gathering: Gathering,
+    held: Held,
     body: &[u8],
     data: &[u8],
-    gather: &mut [u8],
-    message: &mut [u8],
+    gather: &mut [u8; MESSAGE_SIZE],
+    message: &mut [u8; MESSAGE_SIZE],
 ) -> Joined
-    requires { Sound gathering × (length gather.old ≡ message_size) × (message_size ≤ length message.old) × (head_size ≤ length body.now) × («data».now ≡ data_in body.now) × (1 ≤ length «data».now) }
-    ensures { Adds gathering body.now gather.old message.old result gather.new message.new }
+    requires { (head_size ≤ length body.now) × («data».now ≡ data_in body.now) × (1 ≤ length «data».now) }
+    ensures { Adds held.gathering body.now gather.old message.old result gather.new message.new }
 {
     let code = data[0];
-    let at = gathering.count;
-    if other_type(gathering, code) {
+    let at = held.gathering.count;
+    if other_type(held.gathering, code) {
         return bar();
     }
     if MESSAGE_SIZE - at < data.len() - 1 {
@@ -387,15 +388,12 @@ fn add(
 fn other_type(gathering: Gathering, code: u8) -> bool
     ensures { OtherType gathering code result }
 {
-    if gathering.begun {
-        return gathering.code != code;
-    }
-    false
+    gathering.begun && gathering.code != code
 }
 
 // A piece put behind those that wait.
-fn keep(code: u8, at: usize, piece: &[u8], gather: &mut [u8]) -> Joined
-    requires { at + length piece.now ≤ length gather.old }
+fn keep(code: u8, at: usize, piece: &[u8], gather: &mut [u8; MESSAGE_SIZE]) -> Joined
+    requires { at + length piece.now ≤ message_size }
     ensures { Keeps code at piece.now gather.old result gather.new }
 {
     words::copy(piece, &mut gather[at..]);
@@ -411,8 +409,14 @@ fn keep(code: u8, at: usize, piece: &[u8], gather: &mut [u8]) -> Joined
 }
 
 // What waits and the last piece, handed out.
-fn hand_out(code: u8, at: usize, piece: &[u8], gather: &[u8], message: &mut [u8]) -> Joined
-    requires { (at ≤ length gather.now) × (at + length piece.now ≤ length message.old) }
+fn hand_out(
+    code: u8,
+    at: usize,
+    piece: &[u8],
+    gather: &[u8; MESSAGE_SIZE],
+    message: &mut [u8; MESSAGE_SIZE],
+) -> Joined
+    requires { at + length piece.now ≤ message_size }
     ensures { HandsOut code at piece.now gather.now message.old result message.new }
 {
     words::copy(&gather[..at], message);

@@ -9,4 +9,4 @@ pub slice_bounds-copy-end : goal.slice_bounds-copy-end
 slice_bounds-copy-end c = sym (length-take-le _ _ (omega arith))
 
 pub returns : goal.returns
-returns c = hands_out_lem (omega arith) (omega arith) c.copy.ensures c.copy-2.ensures c.closed.ensures
+returns c = hands_out_lem c.told-gather c.told-message c.requires c.copy.ensures c.copy-2.ensures c.closed.ensures

@@ -1,6 +1,0 @@
--- `framer::accept` meets its contract. Assumes nothing.
-use mathlib.Core.Path.{refl}
-use Rattle.framer.proofs.accept.Goals as goal
-
-pub returns : goal.returns
-returns c = record { is = refl }
