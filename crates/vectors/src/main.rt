@@ -8,14 +8,12 @@ mod tally;
 mod trials;
 mod worked;
 
-use tally::{Tally, decimal, text};
+use tally::Tally;
 
 fn main(rt: HostRuntime) {
-    let packets = worked::packets(&rt, Tally { made: 0, wrong: 0 });
-    let all = rules::rules(&rt, packets);
-    text(&rt, b"COMPARED");
-    decimal(&rt, all.made);
-    text(&rt, b" WRONG");
-    decimal(&rt, all.wrong);
-    text(&rt, b"\n");
+    let mut t = Tally::new();
+    worked::packets(&rt, &mut t);
+    rules::rules(&rt, &mut t);
+    let Tally { made, wrong, .. } = t;
+    let _ = print!(rt; "COMPARED {made} WRONG {wrong}\n");
 }

@@ -1,352 +1,322 @@
-// What is tried with a vector: the check, building, damage, and the answers.
-ghost use Rattle.std.specs.Prelude.{◌≡◌, ◌<◌, ◌≤◌, length};
+// What is tried with a vector: the check, building, damage, and the answers. A refusal that is due is its number in the rules' table,
+// and None is a packet.
+ghost use Rattle.std.specs.Prelude.{◌<◌, ◌≤◌, length};
 
-use crate::tally::{Tally, compared, decimal, end, hex, hex_byte, more, text};
+use crate::tally::{Tally, count, hex};
 use packet::{Head, Refusal, Reply};
-use words::wide;
+
+// The fields of a packet that building is given.
+#[derive(Clone, Copy)]
+pub(crate) struct Fields {
+    pub opcode: u8,
+    pub source: u8,
+    pub status: u8,
+}
 
 // A packet that the check finds with these fields and n bytes of data and that building gives again; then it is damaged.
 pub(crate) fn worked(
     rt: &impl Print,
-    t: Tally,
+    t: &mut Tally,
     bytes: &[u8],
     opcode: u8,
     source: u8,
     status: u8,
     n: usize,
-) -> Tally {
-    let a = checked(rt, t, bytes, opcode, source, status, n);
-    let b = built(rt, a, bytes, opcode, source, status, 0, bytes);
-    damaged(rt, b, bytes)
+) {
+    let fields = Fields {
+        opcode,
+        source,
+        status,
+    };
+    checked(rt, t, bytes, fields, n);
+    built(rt, t, bytes, fields, None, bytes);
+    damaged(rt, t, bytes);
 }
 
 // The same with a status that isn't allowed: the check doesn't judge it, building refuses it with 5.
 pub(crate) fn unbuilt(
     rt: &impl Print,
-    t: Tally,
+    t: &mut Tally,
     bytes: &[u8],
     opcode: u8,
     source: u8,
     status: u8,
     n: usize,
-) -> Tally {
-    let a = checked(rt, t, bytes, opcode, source, status, n);
-    let b = built(rt, a, bytes, opcode, source, status, 5, b"");
-    damaged(rt, b, bytes)
+) {
+    let fields = Fields {
+        opcode,
+        source,
+        status,
+    };
+    checked(rt, t, bytes, fields, n);
+    built(rt, t, bytes, fields, Some(5), b"");
+    damaged(rt, t, bytes);
 }
 
-// The check gives this refusal at the front of these bytes; 0 is a packet.
-pub(crate) fn front(rt: &impl Print, t: Tally, bytes: &[u8], due: u8) -> Tally {
-    let number = verdict(bytes);
-    text(rt, b"FRONT");
+// The check gives this refusal at the front of these bytes.
+pub(crate) fn front(rt: &impl Print, t: &mut Tally, bytes: &[u8], due: Option<u8>) {
+    let found = refusal_of(packet::check(bytes));
+    let _ = print!(rt; "FRONT");
     hex(rt, bytes);
-    say_number(rt, number);
-    end(rt, t, compared(t, number == due))
+    say_refusal(rt, found);
+    t.compare(found == due);
+    t.end(rt);
 }
 
-// The number of the refusal; 0 for a packet.
-pub(crate) fn verdict(s: &[u8]) -> u8 {
-    match packet::check(s) {
-        Ok(_) => 0,
-        Err(refusal) => packet::number(refusal),
+// The number of the refusal, where there is one.
+pub(crate) fn refusal_of<T: Copy>(judged: Result<T, Refusal>) -> Option<u8> {
+    match judged {
+        Ok(_) => None,
+        Err(refusal) => Some(packet::number(refusal)),
     }
 }
 
-fn say_number(rt: &impl Print, number: u8) {
-    if number == 0 {
-        text(rt, b" PACKET");
-        return;
-    }
-    text(rt, b" REFUSED");
-    decimal(rt, wide(number));
+fn say_refusal(rt: &impl Print, refusal: Option<u8>) {
+    let _ = match refusal {
+        None => print!(rt; " PACKET"),
+        Some(number) => print!(rt; " REFUSED {number}"),
+    };
 }
 
 // The check finds a packet with these fields and n bytes of data.
-pub(crate) fn checked(
-    rt: &impl Print,
-    t: Tally,
-    bytes: &[u8],
-    opcode: u8,
-    source: u8,
-    status: u8,
-    n: usize,
-) -> Tally {
-    text(rt, b"CHECK");
+pub(crate) fn checked(rt: &impl Print, t: &mut Tally, bytes: &[u8], fields: Fields, n: usize) {
+    let _ = print!(rt; "CHECK");
     hex(rt, bytes);
     match packet::check(bytes) {
         Ok(head) => {
-            let a = headed(rt, t, head, opcode, source, status);
-            end(rt, t, parted(rt, a, head, bytes, n))
+            headed(rt, t, head, fields);
+            parted(rt, t, head, bytes, n);
         }
         Err(refusal) => {
-            say_number(rt, packet::number(refusal));
-            end(rt, t, compared(t, false))
+            say_refusal(rt, Some(packet::number(refusal)));
+            t.compare(false);
         }
     }
+    t.end(rt);
 }
 
-fn headed(rt: &impl Print, t: Tally, head: Head, opcode: u8, source: u8, status: u8) -> Tally {
-    say_fields(rt, head.opcode, head.source, head.status);
-    let a = compared(t, head.opcode == opcode);
-    let b = compared(a, head.source == source);
-    compared(b, head.status == status)
+fn headed(rt: &impl Print, t: &mut Tally, head: Head, due: Fields) {
+    let Head {
+        opcode,
+        source,
+        status,
+        ..
+    } = head;
+    say_fields(
+        rt,
+        Fields {
+            opcode,
+            source,
+            status,
+        },
+    );
+    t.compare(opcode == due.opcode);
+    t.compare(source == due.source);
+    t.compare(status == due.status);
 }
 
-fn parted(rt: &impl Print, t: Tally, head: Head, bytes: &[u8], n: usize) -> Tally {
+fn parted(rt: &impl Print, t: &mut Tally, head: Head, bytes: &[u8], n: usize) {
     let part = packet::data_part(bytes);
     say_size(rt, part.len());
-    let a = compared(t, part.len() == n);
-    let b = compared(a, head.length == part.len() + 4);
-    compared(b, words::same(part, between(bytes)))
+    t.compare(part.len() == n);
+    t.compare(head.length == part.len() + 4);
+    t.compare(part == between(bytes));
 }
 
 // What stands between the header and the checksum of a whole packet.
 fn between(bytes: &[u8]) -> &[u8] {
-    let n = bytes.len();
-    if n < 6 {
-        return &bytes[..0];
+    match bytes {
+        [_, _, _, _, part @ .., _, _] => part,
+        _ => &bytes[..0],
     }
-    &bytes[4..n - 2]
 }
 
-pub(crate) fn say_fields(rt: &impl Print, opcode: u8, source: u8, status: u8) {
-    text(rt, b" FIELDS");
-    hex_byte(rt, opcode);
-    hex_byte(rt, source);
-    hex_byte(rt, status);
+pub(crate) fn say_fields(rt: &impl Print, fields: Fields) {
+    let _ = print!(rt;
+        " FIELDS {:02X} {:02X} {:02X}",
+        fields.opcode, fields.source, fields.status
+    );
 }
 
 pub(crate) fn say_size(rt: &impl Print, n: usize) {
-    text(rt, b" DATA");
-    decimal(rt, n);
+    let _ = print!(rt; " DATA {n}");
 }
 
 // Longer than any packet and any room that is lent, so that the bytes behind them can be looked at.
 pub(crate) type Buffer = [u8; 300];
 
 // A buffer that nothing has written: 255 and downwards, so that a byte that was only moved is seen too.
-pub(crate) fn unwritten() -> Buffer
-    ensures { 300 ≡ length result }
-{
-    let mut buffer = [0u8; 300];
-    for i in 0..300 {
-        buffer[i] = unwritten_byte(i);
-    }
-    buffer
-}
-
-fn unwritten_byte(i: usize) -> u8 {
-    255 - (i % 256) as u8
-}
-
-// Whether nothing has written to the buffer from this place on.
-fn untouched(buffer: &[u8], from: usize) -> bool {
-    for i in from..buffer.len() {
-        if buffer[i] != unwritten_byte(i) {
-            return false;
-        }
-    }
-    true
+pub(crate) fn unwritten() -> Buffer {
+    std::array::from_fn(|i| 255 - (i % 256) as u8)
 }
 
 // Whether these bytes stand at the front of the buffer, and nothing behind them was written.
-fn stands(buffer: &[u8], written: &[u8]) -> bool {
-    let n = written.len();
-    if words::same(at_most(buffer, n), written) {
-        return untouched(buffer, n);
-    }
-    false
+fn stands(buffer: &Buffer, written: &[u8]) -> bool {
+    let mut due = unwritten();
+    words::copy(written, &mut due);
+    *buffer == due
 }
 
 // The first n bytes, or all where there are fewer.
-pub(crate) fn at_most(s: &[u8], n: usize) -> &[u8]
-    ensures { length result.now ≤ length s.now }
-{
-    if s.len() < n {
-        return s;
-    }
-    &s[..n]
+pub(crate) fn at_most(s: &[u8], n: usize) -> &[u8] {
+    &s[..n.min(s.len())]
 }
 
-// Building from the fields and the data of `bytes` into a room of 257: this refusal, or 0 and these bytes.
+// Building from the fields and the data of `bytes` into a room of 257: this refusal, or these bytes.
 pub(crate) fn built(
     rt: &impl Print,
-    t: Tally,
+    t: &mut Tally,
     bytes: &[u8],
-    opcode: u8,
-    source: u8,
-    status: u8,
-    due: u8,
+    fields: Fields,
+    due: Option<u8>,
     written: &[u8],
-) -> Tally {
-    let part = packet::data_part(bytes);
+) {
     let mut buffer = unwritten();
-    let done = build_in(&mut buffer, 257, opcode, source, status, part);
-    text(rt, b"BUILD");
-    judged(rt, t, done, &buffer, due, written)
+    let done = build_in(&mut buffer, 257, fields, packet::data_part(bytes));
+    let _ = print!(rt; "BUILD");
+    judged(rt, t, done, &buffer, due, written);
 }
 
 // Building into a room that is the front of a buffer.
 pub(crate) fn build_in(
-    buffer: &mut [u8],
+    buffer: &mut Buffer,
     size: usize,
-    opcode: u8,
-    source: u8,
-    status: u8,
+    fields: Fields,
     part: &[u8],
 ) -> Result<usize, Refusal>
-    requires { size ≤ length buffer.old }
+    requires { size ≤ 300 }
 {
-    packet::build(&mut buffer[..size], opcode, source, status, part)
+    packet::build(
+        &mut buffer[..size],
+        fields.opcode,
+        fields.source,
+        fields.status,
+        part,
+    )
 }
 
 // What building did: its number, its size, and every byte of the buffer.
 pub(crate) fn judged(
     rt: &impl Print,
-    t: Tally,
+    t: &mut Tally,
     done: Result<usize, Refusal>,
     buffer: &Buffer,
-    due: u8,
+    due: Option<u8>,
     written: &[u8],
-) -> Tally {
-    say_number(rt, refusal_of(done));
-    hex(rt, at_most(buffer, packet::size_of(done)));
-    let a = compared(t, refusal_of(done) == due);
-    let b = compared(a, packet::size_of(done) == written.len());
-    end(rt, t, compared(b, stands(buffer, written)))
-}
-
-// The number of the refusal; 0 where a packet was written.
-pub(crate) fn refusal_of(done: Result<usize, Refusal>) -> u8 {
-    match done {
-        Ok(_) => 0,
-        Err(refusal) => packet::number(refusal),
-    }
+) {
+    let refusal = refusal_of(done);
+    let size = packet::size_of(done);
+    say_refusal(rt, refusal);
+    hex(rt, at_most(buffer, size));
+    t.compare(refusal == due);
+    t.compare(size == written.len());
+    t.compare(stands(buffer, written));
+    t.end(rt);
 }
 
 // An answer into a room of 7 gives these bytes; a room of 6 is too small.
-pub(crate) fn answered(rt: &impl Print, t: Tally, bytes: &[u8], source: u8, reply: Reply) -> Tally {
-    let a = answer(rt, t, 7, source, reply, 0, bytes);
-    answer(rt, a, 6, source, reply, 13, b"")
+pub(crate) fn answered(rt: &impl Print, t: &mut Tally, bytes: &[u8], source: u8, reply: Reply) {
+    answer(rt, t, 7, source, reply, None, bytes);
+    answer(rt, t, 6, source, reply, Some(13), b"");
 }
 
-// An answer into a room of this size: this refusal, or 0 and these bytes.
+// An answer into a room of this size: this refusal, or these bytes.
 pub(crate) fn answer(
     rt: &impl Print,
-    t: Tally,
+    t: &mut Tally,
     size: usize,
     source: u8,
     reply: Reply,
-    due: u8,
+    due: Option<u8>,
     written: &[u8],
-) -> Tally
+)
     requires { size ≤ 300 }
 {
     let mut buffer = unwritten();
-    let done = answer_in(&mut buffer, size, source, reply);
-    text(rt, b"ANSWER");
-    decimal(rt, size);
-    judged(rt, t, done, &buffer, due, written)
-}
-
-fn answer_in(buffer: &mut [u8], size: usize, source: u8, reply: Reply) -> Result<usize, Refusal>
-    requires { size ≤ length buffer.old }
-{
-    packet::answer(&mut buffer[..size], source, reply)
+    let done = packet::answer(&mut buffer[..size], source, reply);
+    let _ = print!(rt; "ANSWER {size}");
+    judged(rt, t, done, &buffer, due, written);
 }
 
 // A packet cut short, with more behind it, and with one byte changed.
-fn damaged(rt: &impl Print, t: Tally, bytes: &[u8]) -> Tally {
+fn damaged(rt: &impl Print, t: &mut Tally, bytes: &[u8]) {
     let mut buffer = unwritten();
     words::copy(bytes, &mut buffer);
-    let a = cut(rt, t, bytes);
-    let b = longer(rt, a, bytes, &buffer);
-    changed(rt, b, &mut buffer, bytes.len())
+    cut(rt, t, bytes);
+    longer(rt, t, bytes, &buffer);
+    changed(rt, t, &mut buffer, bytes.len());
 }
 
 // How often the check found a packet, and refusals 1, 2 and 3.
-#[derive(Clone, Copy)]
+#[derive(Clone, Copy, Default)]
 struct Found {
-    tally: Tally,
     packets: usize,
     ones: usize,
     twos: usize,
     threes: usize,
 }
 
-fn nothing(t: Tally) -> Found {
-    Found {
-        tally: t,
-        packets: 0,
-        ones: 0,
-        twos: 0,
-        threes: 0,
+impl Found {
+    fn see(&mut self, t: &mut Tally, s: &[u8], due: Option<u8>) {
+        let found = refusal_of(packet::check(s));
+        t.compare(found == due);
+        count(&mut self.packets, found.is_none());
+        count(&mut self.ones, found == Some(1));
+        count(&mut self.twos, found == Some(2));
+        count(&mut self.threes, found == Some(3));
     }
-}
 
-fn seen(f: Found, s: &[u8], due: u8) -> Found {
-    let number = verdict(s);
-    let t = f.tally;
-    Found {
-        tally: compared(t, number == due),
-        packets: more(f.packets, number == 0),
-        ones: more(f.ones, number == 1),
-        twos: more(f.twos, number == 2),
-        threes: more(f.threes, number == 3),
+    fn tell(self, rt: &impl Print, t: &mut Tally) {
+        let _ = print!(rt;
+            " {} {} {} {}",
+            self.packets, self.ones, self.twos, self.threes
+        );
+        t.end(rt);
     }
-}
-
-fn told(rt: &impl Print, t: Tally, f: Found) -> Tally {
-    decimal(rt, f.packets);
-    decimal(rt, f.ones);
-    decimal(rt, f.twos);
-    decimal(rt, f.threes);
-    end(rt, t, f.tally)
 }
 
 // Cut at each length, from no bytes on: refusal 3.
-pub(crate) fn cut(rt: &impl Print, t: Tally, bytes: &[u8]) -> Tally {
-    let mut f = nothing(t);
+pub(crate) fn cut(rt: &impl Print, t: &mut Tally, bytes: &[u8]) {
+    let mut found = Found::default();
     for n in 0..bytes.len() {
-        f = seen(f, at_most(bytes, n), 3);
+        found.see(t, &bytes[..n], Some(3));
     }
-    text(rt, b"CUT");
-    told(rt, t, f)
+    let _ = print!(rt; "CUT");
+    found.tell(rt, t);
 }
 
 // One byte more than the packet, and many more: later bytes aren't read.
-fn longer(rt: &impl Print, t: Tally, bytes: &[u8], buffer: &[u8]) -> Tally {
-    let one = seen(nothing(t), at_most(buffer, bytes.len() + 1), 0);
-    let f = seen(one, buffer, 0);
-    text(rt, b"LONGER");
-    told(rt, t, f)
+fn longer(rt: &impl Print, t: &mut Tally, bytes: &[u8], buffer: &Buffer) {
+    let mut found = Found::default();
+    found.see(t, at_most(buffer, bytes.len() + 1), None);
+    found.see(t, buffer, None);
+    let _ = print!(rt; "LONGER");
+    found.tell(rt, t);
 }
 
 // What is added to a byte, as bytes add: steps up and down, so that a length comes out too long, shorter, and below 4.
 const DIFFERENCES: [u8; 11] = [1, 2, 4, 16, 64, 128, 192, 240, 252, 254, 255];
 
 // Each of the n bytes of a packet changed by each difference.
-fn changed(rt: &impl Print, t: Tally, buffer: &mut [u8], n: usize) -> Tally {
-    let mut f = nothing(t);
-    for at in 0..at_most(buffer, n).len() {
-        f = changed_at(f, buffer, n, at);
+fn changed(rt: &impl Print, t: &mut Tally, buffer: &mut Buffer, n: usize) {
+    let mut found = Found::default();
+    for at in 0..n.min(buffer.len()) {
+        changed_at(t, &mut found, buffer, n, at);
     }
-    text(rt, b"CHANGED");
-    told(rt, t, f)
+    let _ = print!(rt; "CHANGED");
+    found.tell(rt, t);
 }
 
-fn changed_at(f: Found, buffer: &mut [u8], n: usize, at: usize) -> Found
-    requires { at < length buffer.old }
+fn changed_at(t: &mut Tally, found: &mut Found, buffer: &mut Buffer, n: usize, at: usize)
+    requires { at < 300 }
 {
     let old = buffer[at];
-    let mut found = f;
-    for k in 0..11 {
-        let new = std::num::wrapping_add_u8(old, DIFFERENCES[k]);
+    for difference in DIFFERENCES {
+        let new = old.wrapping_add(difference);
         buffer[at] = new;
-        found = seen(found, at_most(buffer, n), spoilt(new, at, n));
+        found.see(t, at_most(buffer, n), Some(spoilt(new, at, n)));
     }
     buffer[at] = old;
-    found
 }
 
 // What is due for a packet of n bytes with this new byte. A first byte says another length; any other breaks the sum.
@@ -357,7 +327,7 @@ fn spoilt(new: u8, at: usize, n: usize) -> u8 {
     if new < 4 {
         return 1;
     }
-    if n < wide(new) + 2 {
+    if n < usize::from(new) + 2 {
         return 3;
     }
     2
