@@ -2,48 +2,34 @@
 -- whose rows are marked, since a row's number and its place determine each other. Assumes nothing.
 use Prim.Native.Nat.{ℕ, zero, suc, ◌+◌, ◌-◌, ◌*◌, ◌≤◌, ◌<◌}
 use mathlib.Core.Path.{◌≡◌, refl, sym, ap, ◌∙◌}
-use mathlib.Core.Bool.{Bool, true, false, not}
-use mathlib.Core.List.{List, [], ◌∷◌, ◌++◌, append_assoc}
+use mathlib.Core.Bool.{Bool, true, false, not, ◌||◌}
+use mathlib.Core.List.{List, [], ◌∷◌, ◌++◌, append_assoc, append-nil}
 use native.Mathlib.Numerals.{add-one}
 use native.Mathlib.Omega.{arith}
 use lib.Dec.{eqb, ltb}
-use lib.ListN.{length, get_or, take, drop, set, replicate, length-append, length-set, get_or-replicate, drop_of_length-le}
-use lib.Seq.{drop-cons, take-suc, take_all, length-take-le, drop-drop, sets-eq, get_or-set_same, get_or-set_other}
-use borrow.Author.Tests.{eq-eqb, ne_eqb, lt-ltb, le-ltb, ltb-true, eqb-true, eqb-false, not-true}
+use lib.ListN.{length, get_or, take, drop, set, replicate, length-append, length-set, length-take, length-drop, get_or-replicate, drop_of_length-le}
+use lib.Seq.{drop-cons, take-suc, take-suc-set, take_all, drop-drop, sets-eq, get_or-set_same, get_or-set_other}
+use borrow.Author.Tests.{lt-ltb, le-ltb, ltb-true, eqb-true, eqb-false, not-true}
 use Rattle.words.specs.Lists.{pick, both, either, over, over_at}
 use Rattle.words.proofs.Lists.{length_over_at, part_over, set_over, both_left, both_right, never, either_true, over_behind}
 use Rattle.packet.specs.declared.Refusal.TheVariants.{Room}
-use Rattle.std.specs.Prelude.{Ok, Err}
+use Rattle.std.specs.Prelude.{Some, None, Ok, Err}
+use Rattle.std.specs.List.{list_any}
 use Rattle.table.specs.Rows.{parameter_count, pairs_size, rows, place_of, supported}
 use Rattle.table.specs.Table.{Values, value_of, member, asked_for, numbers_of, answered_numbers, pair_bytes, answer_data}
-use Rattle.table.specs.Promises.{Answers, Place, AsksAll, AllPairs, AskedPairs, Fits, Asks, asks, marks, showing, values_of}
+use Rattle.table.specs.Promises.{Answers, Place, AllPairs, AskedPairs, Fits, Asks, asks, marks, showing, values_of}
 use Rattle.table.specs.declared.Table.{Table}
-use Rattle.table.proofs.Finding.{many, place_at, same_place}
+use Rattle.table.proofs.Finding.{many, setting_at, setting_row, place_at, same_place, found_at, found_most, not_found}
 
--- ---- `asks_all`
+-- FEh anywhere in the list, as the library's `contains` looks for it.
+or_either : (a b : Bool) → a || b ≡ either a b
+or_either true b = refl
+or_either false b = refl
 
--- The number is not among those passed.
-pub record Seeking (n : ℕ) (asked : List ℕ) (i : ℕ) : Type 0 where
-  pub at : i ≤ length asked
-  pub rest : member n asked ≡ member n (drop i asked)
-
-pub seeking_none : {n : ℕ} {asked : List ℕ} → Seeking n asked 0
-seeking_none = record { at = omega arith; rest = refl }
-
-member_step : (n : ℕ) (asked : List ℕ) (i : ℕ) → i < length asked → member n (drop i asked) ≡ either (eqb (get_or asked i 0) n) (member n (drop (suc i) asked))
+pub member_any : (n : ℕ) (xs : List ℕ) → list_any (λ x. eqb x n) xs ≡ member n xs
 unfolding member
-member_step n asked i h = rw (drop-cons asked i 0 h) refl
-
-pub seeking_more : {n : ℕ} {asked : List ℕ} {i : ℕ} → Seeking n asked i → i < length asked → (get_or asked i 0 ≡ n → ⊥) → Seeking n asked (i + 1)
-seeking_more {n} {asked} {i} k h d =
-    record { at = omega arith; rest = k.rest ∙ (member_step n asked i h ∙ rw (add-one i) (simp (ne_eqb (get_or asked i 0) n d))) }
-
-pub seeking_found : {asked : List ℕ} {i : ℕ} → Seeking 0xFE asked i → i < length asked → get_or asked i 0 ≡ 0xFE → AsksAll asked true
-seeking_found {asked} {i} k h e = record { is = sym (k.rest ∙ (member_step 0xFE asked i h ∙ simp (eq-eqb (get_or asked i 0) 0xFE e))) }
-
-pub seeking_all : {asked : List ℕ} {i : ℕ} → Seeking 0xFE asked i → length asked ≤ i → AsksAll asked false
-unfolding member
-seeking_all {asked} {i} k h = record { is = sym (k.rest ∙ rw (drop_of_length-le asked {i = i} h) refl) }
+member_any n [] = refl
+member_any n (x ∷ xs) = or_either (eqb x n) (list_any (λ y. eqb y n) xs) ∙ ap (λ (b : Bool). either (eqb x n) b) (member_any n xs)
 
 -- ---- rooms
 
@@ -92,43 +78,55 @@ number_of (row ∷ rest) zero h = refl
 number_of (row ∷ rest) (suc i) h = number_of rest i (omega arith)
 
 -- The pairs of the first i rows are written.
-pub record Listing (values room₀ room : List ℕ) (i : ℕ) : Type 0 where
-  pub at : i ≤ length rows
-  pub fits : length rows + length rows ≤ length room₀
-  pub long : length room ≡ length room₀
-  pub is : room ≡ over (pair_bytes (showing values) (take i (numbers_of rows))) room₀
+pub record Listing (values bytes : List ℕ) (i : ℕ) : Type 0 where
+  pub long : length bytes ≡ 2 * parameter_count
+  pub is : take (2 * i) bytes ≡ pair_bytes (showing values) (take i (numbers_of rows))
 
-pub listing_none : {values room : List ℕ} → length rows + length rows ≤ length room → Listing values room room 0
-unfolding over pair_bytes
-listing_none h = record { at = omega arith; fits = h; long = refl; is = refl }
+pub listing_none : {values bytes : List ℕ} → length bytes ≡ 2 * parameter_count → Listing values bytes 0
+unfolding pair_bytes
+listing_none l = record { long = l; is = refl }
 
-pub listing_more : {values room₀ room : List ℕ} {i : ℕ} → Listing values room₀ room i → i < length rows →
-    Listing values room₀ (set (set room (i + i) (get_or (get_or rows i []) 0 0)) (i + i + 1) (get_or values i 0)) (i + 1)
-listing_more {values} {room₀} {room} {i} k h =
+one_pair : (values : List ℕ) (i : ℕ) → i < length rows →
+    pair_bytes (showing values) (take (i + 1) (numbers_of rows)) ≡ pair_bytes (showing values) (take i (numbers_of rows)) ++ (get_or (get_or rows i []) 0 0 ∷ get_or values i 0 ∷ [])
+unfolding pair_bytes value_of
+one_pair values i h =
     let ns = numbers_of rows in
     let n = get_or (get_or rows i []) 0 0 in
     let l = length_numbers rows in
-    let m = length-take-le i ns (omega arith) in
     let more : take (i + 1) ns ≡ take i ns ++ (n ∷ []) = rw (add-one i, ← number_of rows i h) (take-suc ns i 0 (omega arith)) in
-    let put = rw (place_at i h) at (pair_behind values room₀ (take i ns) n (i + i) (omega arith)) in
+    rw (more) (pairs_append (showing values) (take i ns) (n ∷ []) ∙ rw (place_at i h) refl)
+
+two_more : (bytes : List ℕ) (k a b : ℕ) → k + 1 < length bytes → take (k + 2) (set (set bytes k a) (k + 1) b) ≡ take k bytes ++ (a ∷ b ∷ [])
+two_more bytes k a b h =
+    let two : k + 2 ≡ suc (k + 1) = omega arith in
+    rw (two, take-suc-set (set bytes k a) (k + 1) b (simp length-set h), add-one k, take-suc-set bytes k a (omega arith)) (append_assoc (take k bytes) (a ∷ []) (b ∷ []))
+
+pub listing_more : {values bytes : List ℕ} {i : ℕ} → Listing values bytes i → i < parameter_count →
+    Listing values (set (set bytes (2 * i) (setting_at i).number) (2 * i + 1) (get_or values i 0)) (i + 1)
+listing_more {values} {bytes} {i} k h =
+    let m = many in
+    let n : (setting_at i).number ≡ get_or (get_or rows i []) 0 0 = ap (λ (row : List ℕ). get_or row 0 0) (sym (setting_row i h)) in
+    let twice : 2 * (i + 1) ≡ 2 * i + 2 = omega arith in
     record {
-      at = omega arith;
-      fits = k.fits;
       long = simp length-set k.long;
-      is = two_stores room (i + i) n (get_or values i 0) (omega (arith, k.fits, k.long)) ∙ rw (k.is, more) put;
+      is =
+          rw twice
+          (two_more bytes (2 * i) (setting_at i).number (get_or values i 0) (omega (arith, k.long))
+          ∙ rw (k.is, n) (sym (one_pair values i (omega arith))));
     }
 
-pub listing_all : {values room₀ room : List ℕ} {i : ℕ} → Listing values room₀ room i → length rows ≤ i → AllPairs values room₀ (i + i) room
-listing_all {values} {room₀} {room} {i} k h =
+pub listing_all : {values bytes : List ℕ} {i : ℕ} → Listing values bytes i → parameter_count ≤ i → AllPairs values bytes
+listing_all {values} {bytes} {i} k h =
+    let m = many in
     let l = length_numbers rows in
-    let e : take i (numbers_of rows) ≡ numbers_of rows = take_all i (numbers_of rows) (omega arith) in
-    record {
-      is = let z = length_pairs (showing values) (numbers_of rows) in omega (arith, k.at);
-      room_is = k.is ∙ rw e refl;
-      most = omega (arith, k.at, many);
-    }
+    record { is = sym (take_all (2 * i) bytes (omega (arith, k.long))) ∙ (k.is ∙ ap (pair_bytes (showing values)) (take_all i (numbers_of rows) (omega arith))) }
 
 -- ---- `ask`
+
+-- The code asks what the definition asks.
+in_rows : (n : ℕ) → ltb (place_of n) parameter_count ≡ supported n
+unfolding supported
+in_rows n = refl
 
 pub marks_set : (seen : List Bool) (i : ℕ) → i < length seen → get_or seen i false ≡ false → marks (set seen i true) ≡ marks seen + 1
 unfolding marks
@@ -155,33 +153,32 @@ left_by_lem seen at row room f h e =
     let l = length-set seen row true in
     omega (arith, f.at_is, f.room_is, f.seen_is)
 
-module _ {seen : List Bool} {at number row : ℕ} {room : List ℕ} (p : Place number row) where
-  pub room_left : Fits seen at room → row < parameter_count → get_or seen row false ≡ false → at + 2 ≤ length room
-  room_left = left_by_lem seen at row room
+ask_not : {seen : List Bool} {at number : ℕ} {room values : List ℕ} → asks seen number ≡ false → Asks seen at values number room at seen room
+ask_not e = record { is = simp e; seen_is = simp e; room_is = simp e }
+
+pub ask_unknown : {seen : List Bool} {at number : ℕ} {room values : List ℕ} → Place number None → Asks seen at values number room at seen room
+unfolding asks
+ask_unknown {number = number} p = ask_not (simp (in_rows number ∙ not_found p))
+
+module _ {seen : List Bool} {at number row : ℕ} {room : List ℕ} (p : Place number (Some row)) where
+  pub room_left : Fits seen at room → get_or seen row false ≡ false → at + 2 ≤ length room
+  room_left f e = left_by_lem seen at row room f (found_most p) e
 
   module _ {values : List ℕ} where
-    ask_not : asks seen number ≡ false → Asks seen at values number room at seen room
-    ask_not e = record { is = simp e; seen_is = simp e; room_is = simp e }
-
-    pub ask_unknown : parameter_count ≤ row → Asks seen at values number room at seen room
+    pub ask_again : get_or seen row false ≡ true → Asks seen at values number room at seen room
     unfolding asks
-    ask_unknown h = ask_not (simp (le-ltb (place_of number) parameter_count (omega (arith, p.is))))
+    ask_again e = ask_not (simp (sym (found_at p), lt-ltb row parameter_count (found_most p), e))
 
-    module _ (h : row < parameter_count) where
-      pub ask_again : get_or seen row false ≡ true → Asks seen at values number room at seen room
-      unfolding asks
-      ask_again e = ask_not (simp (sym p.is, lt-ltb row parameter_count h, e))
-
-      pub ask_new : Fits seen at room → get_or seen row false ≡ false →
-          Asks seen at values number room (at + 2) (set seen row true) (set (set room at number) (at + 1) (get_or values row 0))
-      unfolding asks
-      ask_new f e =
-          let y : asks seen number ≡ true = simp (sym p.is, lt-ltb row parameter_count h, e) in
-          record {
-            is = simp y;
-            seen_is = rw y (rw p.is refl);
-            room_is = rw y (two_stores room at number (get_or values row 0) (room_left f h e) ∙ rw p.is refl);
-          }
+    pub ask_new : Fits seen at room → get_or seen row false ≡ false →
+        Asks seen at values number room (at + 2) (set seen row true) (set (set room at number) (at + 1) (get_or values row 0))
+    unfolding asks
+    ask_new f e =
+        let y : asks seen number ≡ true = simp (sym (found_at p), lt-ltb row parameter_count (found_most p), e) in
+        record {
+          is = simp y;
+          seen_is = rw y (rw (found_at p) refl);
+          room_is = rw y (two_stores room at number (get_or values row 0) (room_left f e) ∙ rw (found_at p) refl);
+        }
 
 -- ---- `asked_pairs`
 
@@ -229,11 +226,6 @@ asked_step : (sofar asked : List ℕ) (i : ℕ) → i < length asked →
     ≡ asked_for (pick (both (supported (get_or asked i 0)) (not (member (get_or asked i 0) sofar))) (sofar ++ (get_or asked i 0 ∷ [])) sofar) (drop (i + 1) asked)
 unfolding asked_for
 asked_step sofar asked i h = rw (add-one i, drop-cons asked i 0 h) refl
-
--- The code asks what the definition asks.
-in_rows : (n : ℕ) → ltb (place_of n) parameter_count ≡ supported n
-unfolding supported
-in_rows n = refl
 
 asks_by : (seen : List Bool) (sofar : List ℕ) (n : ℕ) → (supported n ≡ true → get_or seen (place_of n) false ≡ member n sofar) →
     (d : Bool) → supported n ≡ d → asks seen n ≡ both (supported n) (not (member n sofar))
@@ -329,12 +321,12 @@ answer_data_lem : (t : Table) (asked ns : List ℕ) → answered_numbers asked �
 unfolding answer_data
 answer_data_lem t asked ns a = rw (a, pairs_shown t ns) refl
 
--- The beep byte, and the part behind it that was lent and has come back with the pairs at its front.
-answer_by : (t : Table) (asked room part ns : List ℕ) (count : ℕ) → pairs_size ≤ length room → answered_numbers asked ≡ ns →
-    count ≡ length (pair_bytes (showing t.present) ns) → count ≤ 2 * parameter_count →
-    part ≡ over (pair_bytes (showing t.present) ns) (take (length (set room 0 0xFF) - 1) (drop 1 (set room 0 0xFF))) →
-    Answers t asked room (Ok (count + 1)) (take 1 (set room 0 0xFF) ++ (part ++ drop (length (set room 0 0xFF) - 1) (drop 1 (set room 0 0xFF))))
-answer_by t asked room part ns count h a n m e =
+-- The beep byte, and the k bytes behind it that were lent and have come back with the pairs at their front.
+answer_by : (t : Table) (asked room part ns : List ℕ) (count k : ℕ) → pairs_size ≤ length room → 1 + k ≤ length room → answered_numbers asked ≡ ns →
+    count ≡ length (pair_bytes (showing t.present) ns) → count ≤ k →
+    part ≡ over (pair_bytes (showing t.present) ns) (take k (drop 1 (set room 0 0xFF))) →
+    Answers t asked room (Ok (count + 1)) (take 1 (set room 0 0xFF) ++ (part ++ drop k (drop 1 (set room 0 0xFF))))
+answer_by t asked room part ns count k h j a n m e =
     let q = pair_bytes (showing t.present) ns in
     let l = length-set room 0 0xFF in
     let y = le-ltb (length room) (pairs_size) h in
@@ -342,17 +334,35 @@ answer_by t asked room part ns count h a n m e =
     record {
       is = simp (y, d) (ap Ok (omega arith));
       room_is =
-          part_over 1 (length (set room 0 0xFF) - 1) q (set room 0 0xFF) part (omega arith) (omega arith) e
+          part_over 1 k q (set room 0 0xFF) part (omega arith) (omega arith) e
           ∙ simp (y, d) (rw (set_over room 0 0xFF (omega arith)) (over_behind 1 (0xFF ∷ []) q room refl));
     }
 
-module _ {t : Table} {asked room part : List ℕ} {count : ℕ} {b : Bool} (h : pairs_size ≤ length room) (k : AsksAll asked b) where
-  pub answer_all : b ≡ true → AllPairs t.present (take (length (set room 0 0xFF) - 1) (drop 1 (set room 0 0xFF))) count part →
-      Answers t asked room (Ok (count + 1)) (take 1 (set room 0 0xFF) ++ (part ++ drop (length (set room 0 0xFF) - 1) (drop 1 (set room 0 0xFF))))
-  unfolding answered_numbers
-  answer_all e p = answer_by t asked room part (numbers_of rows) count h (simp (sym k.is ∙ e)) p.is p.most p.room_is
+-- What fills the whole room is all that is left in it.
+over_whole : (q room : List ℕ) → length room ≡ length q → over q room ≡ q
+unfolding over
+over_whole q room e = rw (drop_of_length-le room {i = length q} (omega arith)) (append-nil q)
 
-  pub answer_asked : b ≡ false → AskedPairs t.present asked (take (length (set room 0 0xFF) - 1) (drop 1 (set room 0 0xFF))) count part →
+asks_all : (asked : List ℕ) (b : Bool) → b ≡ list_any (λ x. eqb x 0xFE) asked → member 0xFE asked ≡ b
+asks_all asked b k = sym (k ∙ member_any 0xFE asked)
+
+module _ {t : Table} {asked room part : List ℕ} {b : Bool} (h : pairs_size ≤ length room) (k : b ≡ list_any (λ x. eqb x 0xFE) asked) where
+  pub answer_all : {all : List ℕ} → b ≡ true → AllPairs t.present all → part ≡ all →
+      Answers t asked room (Ok pairs_size) (take 1 (set room 0 0xFF) ++ (part ++ drop (2 * parameter_count) (drop 1 (set room 0 0xFF))))
+  unfolding answered_numbers
+  answer_all e p f =
+      let q = pair_bytes (showing t.present) (numbers_of rows) in
+      let n = length_pairs (showing t.present) (numbers_of rows) in
+      let l = length_numbers rows in
+      let m = many in
+      let s = length-set room 0 0xFF in
+      let whole : length (take (2 * parameter_count) (drop 1 (set room 0 0xFF))) ≡ length q = simp (length-take, length-drop) (omega arith) in
+      answer_by t asked room part (numbers_of rows) (2 * parameter_count) (2 * parameter_count) h h (simp (asks_all asked b k ∙ e)) (omega arith) (omega arith)
+      (f ∙ (p.is ∙ sym (over_whole q (take (2 * parameter_count) (drop 1 (set room 0 0xFF))) whole)))
+
+  pub answer_asked : {count : ℕ} → b ≡ false → AskedPairs t.present asked (take (length (set room 0 0xFF) - 1) (drop 1 (set room 0 0xFF))) count part →
       Answers t asked room (Ok (count + 1)) (take 1 (set room 0 0xFF) ++ (part ++ drop (length (set room 0 0xFF) - 1) (drop 1 (set room 0 0xFF))))
   unfolding answered_numbers
-  answer_asked e p = answer_by t asked room part (asked_for [] asked) count h (simp (sym k.is ∙ e)) p.is p.most p.room_is
+  answer_asked {count} e p =
+      let l = length-set room 0 0xFF in
+      answer_by t asked room part (asked_for [] asked) count (length (set room 0 0xFF) - 1) h (omega arith) (simp (asks_all asked b k ∙ e)) p.is (omega (arith, p.most)) p.room_is

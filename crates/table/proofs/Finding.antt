@@ -1,21 +1,29 @@
 -- Where a parameter stands among the rows, what it takes, and its value: one law for each `return`, and what the loops over the rows keep.
 -- Assumes nothing.
 use Prim.Native.Nat.{ℕ, zero, suc, ◌+◌, ◌≤◌, ◌<◌}
-use mathlib.Core.Path.{◌≡◌, refl, sym, ap, ◌∙◌}
+use mathlib.Core.Path.{◌≡◌, refl, sym, ap, subst, ◌∙◌}
 use mathlib.Core.Bool.{Bool, true, false}
 use mathlib.Core.List.{List, [], ◌∷◌}
 use native.Mathlib.Nat.{zero-add}
-use native.Mathlib.Numerals.{add-one}
 use native.Mathlib.Omega.{arith}
-use lib.Dec.{eqb}
-use lib.ListN.{length, get_or, drop, set, replicate, get_or-eq_default}
-use lib.Seq.{drop-cons, drop-length, get_or-drop}
-use borrow.Author.Tests.{eq-eqb, ne_eqb, lt-ltb, le-ltb, le-leb, lt-leb, eqb-true}
-use Rattle.words.specs.Lists.{pick, both}
+use lib.Dec.{eqb, ltb, leb}
+use lib.ListN.{length, get_or, drop, replicate, get_or-eq_default}
+use lib.Seq.{get_or-drop}
+use borrow.Author.Tests.{eq-eqb, ne_eqb, le-leb, lt-leb, eqb-true, ltb-true, ltb-false}
+use Rattle.words.specs.Lists.{pick, both, either}
 use Rattle.words.proofs.Lists.{both_left, both_right}
-use Rattle.words.proofs.Loops.{Filling, filled_none, filled_more, filled_all}
 use Rattle.table.specs.Rows.{parameter_count, rows, place_in, place_of, supported, trigger_allowed, range_allowed, row_allows, allowed, defaults_of}
-use Rattle.table.specs.Promises.{Place, Restores, UnlessLocked, TriggerAllowed, RowAllows, Allowed, Value, Locked}
+use Rattle.std.specs.Prelude.{map, cond, not, Option, Some, None}
+use Rattle.std.proofs.lemmas.Grind.{same_number_lists}
+use Rattle.std.specs.Fn.{Called}
+use Rattle.std.specs.Array.{IsFromFnResultFrom}
+use denote.Param.Members.{Mut}
+use Rattle.std.proofs.lemmas.Bool.{cases_lt}
+use mathlib.Core.Logic.{◌⊎◌, inl, inr}
+use Rattle.std.specs.List.{position, position_or_len}
+use Rattle.table.specs.declared.Setting.{Setting}
+use Rattle.table.specs.declared.TheConstants.{SETTINGS}
+use Rattle.table.specs.Promises.{Place, Restores, row_of, TriggerAllowed, Takes, Allowed, Value, Locked}
 use Rattle.table.specs.Table.{locked_in, restored, value_of}
 use Rattle.table.specs.declared.Table.{Table}
 
@@ -27,39 +35,80 @@ pub many : length rows ≡ parameter_count
 unfolding rows
 many = refl
 
+-- ---- the settings and the rows
+
+-- The constant and the rows of the rules say the same.
+pub settings_rows : map row_of SETTINGS ≡ rows
+unfolding rows
+settings_rows = refl
+
+-- The setting at a place, and its row.
+abbrev pub setting_at : ℕ → Setting
+setting_at i = get_or SETTINGS i (record { number = 0; lowest = 0; highest = 0; default = 0 })
+
+map_at : (settings : List Setting) (i : ℕ) (d : Setting) → i < length settings → get_or (map row_of settings) i [] ≡ row_of (get_or settings i d)
+map_at [] i d h = absurd (omega arith)
+map_at (s ∷ rest) zero d h = refl
+map_at (s ∷ rest) (suc i) d h = map_at rest i d (omega arith)
+
+pub setting_row : (i : ℕ) → i < parameter_count → get_or rows i [] ≡ row_of (setting_at i)
+setting_row i h =
+    subst (λ (table : List (List ℕ)). get_or table i [] ≡ row_of (setting_at i)) settings_rows
+    (map_at SETTINGS i (record { number = 0; lowest = 0; highest = 0; default = 0 }) h)
+
 -- ---- `place`
 
--- One row further.
-place_step : (table : List (List ℕ)) (number i : ℕ) → i < length table →
-    place_in (drop i table) number ≡ pick (eqb (get_or (get_or table i []) 0 0) number) 0 (suc (place_in (drop (suc i) table) number))
+first_by : (d : Bool) (n m : ℕ) → n ≡ m → cond (not d) (1 + n) 0 ≡ pick d 0 (suc m)
+first_by true n m e = refl
+first_by false n m e = omega arith
+
+-- The first setting that has the number stands where the rows have it.
+pub first_place : (settings : List Setting) (number : ℕ) → position_or_len (λ s. eqb s.number number) settings ≡ place_in (map row_of settings) number
 unfolding place_in
-place_step table number i h = rw (drop-cons table i [] h)
+first_place [] number = refl
+first_place (s ∷ rest) number =
+    first_by (eqb s.number number) (position_or_len (λ s. eqb s.number number) rest) (place_in (map row_of rest) number) (first_place rest number)
 
--- No row before i has the number, so its place is that among the rows from i on.
-pub record Looking (number i : ℕ) : Type 0 where
-  pub at : i ≤ length rows
-  pub is : place_of number ≡ i + place_in (drop i rows) number
+position_place : (settings : List Setting) (number : ℕ) →
+    position (λ s. eqb s.number number) settings
+    ≡ pick (ltb (place_in (map row_of settings) number) (length settings)) (Some (place_in (map row_of settings) number)) None
+position_place settings number = rw (first_place settings number) refl
 
-pub looking_none : {number : ℕ} → Looking number 0
-looking_none = record { at = omega arith; is = omega arith }
+pub placed : {number : ℕ} {r : Option ℕ} → r ≡ position (λ s. eqb s.number number) SETTINGS → Place number r
+unfolding supported
+placed {number} e =
+    record {
+      is =
+          e
+          ∙ subst (λ (table : List (List ℕ)). position (λ s. eqb s.number number) SETTINGS ≡ pick (ltb (place_in table number) 9) (Some (place_in table number)) None) settings_rows
+          (position_place SETTINGS number);
+    }
 
-module _ {number i : ℕ} (k : Looking number i) where
-  pub looking_more : i < length rows → (get_or (get_or rows i []) 0 0 ≡ number → ⊥) → Looking number (i + 1)
-  looking_more h d =
-      let e = simp (ne_eqb (get_or (get_or rows i []) 0 0) number d) at (place_step rows number i h) in
-      record { at = omega arith; is = rw (add-one i) (omega (arith, k.is, e)) }
+found_by : (d : Bool) (n at : ℕ) → Some at ≡ pick d (Some n) None → (d ≡ true) × (at ≡ n)
+found_by true n at e = (refl, cc)
+found_by false n at e = absurd (cc)
 
-  pub looking_found : i < length rows → get_or (get_or rows i []) 0 0 ≡ number → Place number i
-  looking_found h d =
-      let e = simp (eq-eqb (get_or (get_or rows i []) 0 0) number d) at (place_step rows number i h) in
-      record { is = omega (arith, k.is, e); most = omega (arith, many) }
+none_by : (d : Bool) (n : ℕ) → None ≡ pick d (Some n) None → d ≡ false
+none_by true n e = absurd (cc)
+none_by false n e = refl
 
-  pub looking_all : parameter_count ≤ i → Place number parameter_count
-  unfolding place_in
-  looking_all h =
-      let e : i ≡ length rows = omega (arith, k.at, many) in
-      let r : place_of number ≡ i + 0 = k.is ∙ rw (e, drop-length rows) refl in
-      record { is = omega (arith, many); most = omega arith }
+-- What is found is supported, and stands at its place.
+module _ {number at : ℕ} (p : Place number (Some at)) where
+  pub found_supported : supported number ≡ true
+  found_supported = (found_by (supported number) (place_of number) at p.is).0
+
+  pub found_at : at ≡ place_of number
+  found_at = (found_by (supported number) (place_of number) at p.is).1
+
+pub not_found : {number : ℕ} → Place number None → supported number ≡ false
+not_found {number} p = none_by (supported number) (place_of number) p.is
+
+pub place_most : (number : ℕ) → supported number ≡ true → place_of number < parameter_count
+unfolding supported
+place_most number s = ltb-true (place_of number) parameter_count s
+
+pub found_most : {number at : ℕ} → Place number (Some at) → at < parameter_count
+found_most {number} p = let m = place_most number (found_supported p) in omega (arith, found_at p)
 
 -- ---- a row's number and its place
 
@@ -76,20 +125,20 @@ number_at [] number h = absurd (omega arith)
 number_at (row ∷ rest) number h = number_by row rest number (number_at rest number) (eqb (get_or row 0 0) number) refl h
 
 -- Each row stands where its number is found: a test that antt computes over the whole table, and the rule that it gives.
-unfoldable placed : List (List ℕ) → ℕ → List (List ℕ) → Bool
-placed table i [] = true
-placed table i (row ∷ rest) = both (eqb (place_in table (get_or row 0 0)) i) (placed table (suc i) rest)
+unfoldable placed_test : List (List ℕ) → ℕ → List (List ℕ) → Bool
+placed_test table i [] = true
+placed_test table i (row ∷ rest) = both (eqb (place_in table (get_or row 0 0)) i) (placed_test table (suc i) rest)
 
-placed_from : (table rest : List (List ℕ)) (i : ℕ) → placed table i rest ≡ true → (k : ℕ) → k < length rest → place_in table (get_or (get_or rest k []) 0 0) ≡ i + k
-unfolding placed
+placed_from : (table rest : List (List ℕ)) (i : ℕ) → placed_test table i rest ≡ true → (k : ℕ) → k < length rest → place_in table (get_or (get_or rest k []) 0 0) ≡ i + k
+unfolding placed_test
 placed_from table [] i t k h = absurd (omega arith)
 placed_from table (row ∷ rest) i t zero h =
-    let e = eqb-true (place_in table (get_or row 0 0)) i (both_left (eqb (place_in table (get_or row 0 0)) i) (placed table (suc i) rest) t) in omega arith
+    let e = eqb-true (place_in table (get_or row 0 0)) i (both_left (eqb (place_in table (get_or row 0 0)) i) (placed_test table (suc i) rest) t) in omega arith
 placed_from table (row ∷ rest) i t (suc k) h =
-    let e = placed_from table rest (suc i) (both_right (eqb (place_in table (get_or row 0 0)) i) (placed table (suc i) rest) t) k (omega arith) in omega arith
+    let e = placed_from table rest (suc i) (both_right (eqb (place_in table (get_or row 0 0)) i) (placed_test table (suc i) rest) t) k (omega arith) in omega arith
 
-all_placed : placed rows 0 rows ≡ true
-unfolding placed place_in rows
+all_placed : placed_test rows 0 rows ≡ true
+unfolding placed_test place_in rows
 all_placed = refl
 
 pub place_at : (i : ℕ) → i < length rows → place_of (get_or (get_or rows i []) 0 0) ≡ i
@@ -133,93 +182,76 @@ restored_none n values [] = refl
 restored_none zero values (d ∷ ds) = ap (λ (r : List ℕ). d ∷ r) (restored_none zero (drop 1 values) ds)
 restored_none (suc n) values (d ∷ ds) = ap (λ (r : List ℕ). d ∷ r) (restored_none n (drop 1 values) ds)
 
--- The first i values are restored.
-pub record Restoring (locked : List Bool) (values next : List ℕ) (i : ℕ) : Type 0 where
-  pub filling : Filling (restored locked values (defaults_of rows)) next i
+-- What `array::from_fn` makes of a closure that keeps its captures, place by place.
+pub made_from : {F : Type 0} (g : Mut F (ℕ × Unit {0}) ℕ) (f : F) (ys : List ℕ) (v : ℕ → ℕ) (n i : ℕ) →
+    ((k y : ℕ) (q : F) → Called g f (k, tt) y q → (q ≡ f) × (y ≡ v k)) → IsFromFnResultFrom g f ys i n → (k : ℕ) → i ≤ k → k < i + n → get_or ys k 0 ≡ v k
+made_from g f ys v zero i says made k a b = absurd (omega arith)
+made_from g f ys v (suc n) i says made k a b =
+    let s = says i made.1 made.0 made.3 in
+    elim (cases_lt i k) [ inl h ↦ made_from g f ys v n (i + 1) says (subst (λ q. IsFromFnResultFrom g q ys (i + 1) n) s.0 made.4) k (omega arith) (omega arith) | inr h ↦ let e : k ≡ i = omega arith in rw e (made.2.1 0 ∙ s.1) ]
 
-restored_rows : (locked : List Bool) (values : List ℕ) → length (restored locked values (defaults_of rows)) ≡ parameter_count
-restored_rows locked values = length_restored locked values (defaults_of rows) ∙ (length_defaults rows ∙ many)
+-- What is restored, place by place.
+pub restored_all : {locked : List Bool} {values next : List ℕ} → length next ≡ parameter_count →
+    ((i : ℕ) → i < parameter_count → get_or next i 0 ≡ pick (get_or locked i false) (get_or values i 0) (setting_at i).default) → Restores locked values next
+restored_all {locked} {values} {next} l k =
+    let m = many in
+    let long = length_restored locked values (defaults_of rows) ∙ (length_defaults rows ∙ many) in
+    record {
+      is =
+          same_number_lists next (restored locked values (defaults_of rows)) (omega arith)
+          (λ i h.
+          k i (omega arith)
+          ∙ sym (restored_at locked values (defaults_of rows) i (let z = length_defaults rows in omega arith)
+          ∙ rw (default_at rows i (omega arith), setting_row i (omega arith)) refl));
+    }
 
-module _ {locked : List Bool} {values next : List ℕ} where
-  pub restoring_none : length next ≡ parameter_count → Restoring locked values next 0
-  restoring_none e = record { filling = filled_none (e ∙ sym (restored_rows locked values)) }
+-- ---- `trigger_allowed`, `takes` and `allowed`
 
-  pub restoring_more : {i x : ℕ} → Restoring locked values next i → i < parameter_count → UnlessLocked (get_or locked i false) (get_or values i 0) (get_or (get_or rows i []) 3 0) x →
-      Restoring locked values (set next i x) (i + 1)
-  restoring_more {i} {x} k h u =
-      let x-is : x ≡ get_or (restored locked values (defaults_of rows)) i 0 =
-      u.is
-      ∙ (rw (← default_at rows i (omega (arith, many))) refl
-      ∙ sym (restored_at locked values (defaults_of rows) i (omega (arith, length_defaults rows, many)))) in
-      record { filling = filled_more 0 x k.filling (omega (arith, restored_rows locked values)) x-is }
+takes_row : (s : Setting) (value : ℕ) → row_allows (row_of s) value ≡ both (both (leb s.lowest value) (leb value s.highest)) (either (not (eqb s.number 0x8A)) (trigger_allowed value))
+unfolding row_allows range_allowed
+takes_row s value = refl
 
-  pub restoring_all : {i : ℕ} → Restoring locked values next i → parameter_count ≤ i → Restores locked values next
-  restoring_all k h = record { is = filled_all k.filling (omega (arith, restored_rows locked values)) }
+pub takes_outside : {s : Setting} {value : ℕ} → (value < s.lowest) ⊎ ((s.lowest ≤ value) × (s.highest < value)) → Takes s value false
+takes_outside {s} {value} (inl h) = record { is = sym (takes_row s value ∙ simp (lt-leb s.lowest value h)) }
+takes_outside {s} {value} (inr h) = record { is = sym (takes_row s value ∙ simp (le-leb s.lowest value h.0, lt-leb value s.highest h.1)) }
 
--- ---- `trigger_allowed` and `allowed`
+module _ {s : Setting} {value : ℕ} (l : s.lowest ≤ value) (h : value ≤ s.highest) where
+  pub takes_other : (s.number ≡ 0x8A → ⊥) → Takes s value (not (eqb s.number 0x8A))
+  takes_other d = record { is = sym (takes_row s value ∙ simp (le-leb s.lowest value l, le-leb value s.highest h, ne_eqb s.number 0x8A d)) }
 
-pub trigger_right : (k : ℕ) {value : ℕ} → value ≡ k → trigger_allowed k ≡ true → TriggerAllowed value true
-trigger_right k e t = record { is = rw e (sym t) }
+  pub takes_trigger : {r : Bool} → s.number ≡ 0x8A → TriggerAllowed value r → Takes s value r
+  takes_trigger e t = record { is = t.is ∙ sym (takes_row s value ∙ simp (le-leb s.lowest value l, le-leb value s.highest h, eq-eqb s.number 0x8A e)) }
 
-pub trigger_last : {value : ℕ} → (value ≡ 0 → ⊥) → (value ≡ 2 → ⊥) → (value ≡ 4 → ⊥) → (value ≡ 7 → ⊥) → TriggerAllowed value (eqb value 8)
-unfolding trigger_allowed
-trigger_last {value} a b d e = record { is = simp (ne_eqb value 0 a, ne_eqb value 2 b, ne_eqb value 4 d, ne_eqb value 7 e) }
+pub allowed_unknown : {number value : ℕ} → Place number None → Allowed number value false
+unfolding allowed
+allowed_unknown p = record { is = simp (not_found p) }
 
-pub supported_at : {number at : ℕ} → Place number at → at < parameter_count → supported number ≡ true
-unfolding supported
-supported_at {number} {at} p h = lt-ltb (place_of number) parameter_count (omega (arith, p.is))
-
-pub unsupported_at : {number at : ℕ} → Place number at → parameter_count ≤ at → supported number ≡ false
-unfolding supported
-unsupported_at {number} {at} p h = le-ltb (place_of number) parameter_count (omega (arith, p.is))
-
-module _ {at value : ℕ} where
-  pub row_low : value < get_or (get_or rows at []) 1 0 → RowAllows at value false
-  unfolding row_allows range_allowed
-  row_low l = record { is = simp (lt-leb (get_or (get_or rows at []) 1 0) value l) }
-
-  module _ (l : get_or (get_or rows at []) 1 0 ≤ value) where
-    pub row_high : get_or (get_or rows at []) 2 0 < value → RowAllows at value false
-    unfolding row_allows range_allowed
-    row_high m = record { is = simp (le-leb (get_or (get_or rows at []) 1 0) value l, lt-leb value (get_or (get_or rows at []) 2 0) m) }
-
-    module _ (m : value ≤ get_or (get_or rows at []) 2 0) where
-      pub row_trigger : {r : Bool} → get_or (get_or rows at []) 0 0 ≡ 0x8A → TriggerAllowed value r → RowAllows at value r
-      unfolding row_allows range_allowed
-      row_trigger e t =
-          record {
-            is = t.is ∙ simp (le-leb (get_or (get_or rows at []) 1 0) value l, le-leb value (get_or (get_or rows at []) 2 0) m, eq-eqb (get_or (get_or rows at []) 0 0) 0x8A e);
-          }
-
-      pub row_right : (get_or (get_or rows at []) 0 0 ≡ 0x8A → ⊥) → RowAllows at value true
-      unfolding row_allows range_allowed
-      row_right d = record { is = simp (le-leb (get_or (get_or rows at []) 1 0) value l, le-leb value (get_or (get_or rows at []) 2 0) m, ne_eqb (get_or (get_or rows at []) 0 0) 0x8A d) }
-
-module _ {number value at : ℕ} (p : Place number at) where
-  pub allowed_unknown : parameter_count ≤ at → Allowed number value false
-  unfolding allowed
-  allowed_unknown h = record { is = simp (unsupported_at p h) }
-
-  pub allowed_row : {r : Bool} → at < parameter_count → RowAllows at value r → Allowed number value r
-  unfolding allowed
-  allowed_row h a = record { is = a.is ∙ simp (supported_at p h, sym p.is) }
+pub allowed_row : {number value at : ℕ} {r : Bool} → Place number (Some at) → Takes (setting_at at) value r → Allowed number value r
+unfolding allowed
+allowed_row {number} {value} {at} p a =
+    record { is = a.is ∙ rw (← setting_row at (found_most p), found_at p) (simp (found_supported p)) }
 
 -- ---- `value`
 
-pub value_found : {t : Table} {number at : ℕ} → Place number at → Value t number (get_or t.present at 0)
+pub value_found : {t : Table} {number at : ℕ} → Place number (Some at) → Value t number (get_or t.present at 0)
 unfolding value_of
-value_found {t} p = record { is = ap (λ (i : ℕ). get_or t.present i 0) p.is }
+value_found {t} p = record { is = ap (λ (i : ℕ). get_or t.present i 0) (found_at p) }
 
-pub value_none : {t : Table} {number at : ℕ} → Place number at → length t.present ≤ at → Value t number 0
+-- A parameter that is not found stands behind the last.
+pub not_placed : (number : ℕ) → supported number ≡ false → parameter_count ≤ place_of number
+unfolding supported
+not_placed number e = ltb-false (place_of number) parameter_count e
+
+pub value_none : {t : Table} {number : ℕ} → Place number None → length t.present ≡ parameter_count → Value t number 0
 unfolding value_of
-value_none {t} p h = record { is = sym (get_or-eq_default t.present 0 (omega (arith, p.is))) }
+value_none {t} {number} p l = record { is = sym (get_or-eq_default t.present 0 (let z = not_placed number (not_found p) in omega arith)) }
 
 -- ---- `locked`
 
-pub locked_found : {t : Table} {number at : ℕ} → Place number at → Locked t number (get_or t.locked at false)
+pub locked_found : {t : Table} {number at : ℕ} → Place number (Some at) → Locked t number (get_or t.locked at false)
 unfolding locked_in
-locked_found {t} p = record { is = ap (λ (i : ℕ). get_or t.locked i false) p.is }
+locked_found {t} p = record { is = ap (λ (i : ℕ). get_or t.locked i false) (found_at p) }
 
-pub locked_none : {t : Table} {number at : ℕ} → Place number at → length t.locked ≤ at → Locked t number false
+pub locked_none : {t : Table} {number : ℕ} → Place number None → length t.locked ≡ parameter_count → Locked t number false
 unfolding locked_in
-locked_none {t} p h = record { is = sym (get_or-eq_default t.locked false (omega (arith, p.is))) }
+locked_none {t} {number} p l = record { is = sym (get_or-eq_default t.locked false (let z = not_placed number (not_found p) in omega arith)) }

@@ -1,5 +1,5 @@
 pub mod Answering
+pub mod Changing
 pub mod Finding
-pub mod Setting
 pub mod Theorems
 pub mod Unique

@@ -6,7 +6,7 @@ use mathlib.Core.List.{List}
 use Rattle.table.specs.declared.Table.{Table}
 use Rattle.std.specs.Prelude.{Result}
 use Rattle.packet.specs.declared.Refusal.{Refusal}
-use Rattle.table.specs.Promises.{Defaults, SetsDefaults, PowerUp, Sets, SendLengthAllowed, RequestLengthAllowed, Value, Locked, Allowed, Answers}
+use Rattle.table.specs.Promises.{Defaults, SetsDefaults, PowerUp, Sets, SendLengthAllowed, RequestLengthAllowed, Value, Locked, Allowed, Answers, AllPairs}
 
 pub defaults_unique : {r r' : Table} → Defaults r → Defaults r' → r ≡ r'
 defaults_unique p q = p.is ∙ sym q.is
@@ -37,3 +37,6 @@ allowed_unique p q = p.is ∙ sym q.is
 
 pub answer_unique : {t : Table} {asked room room₁ room₂ : List ℕ} {r r' : Result ℕ Refusal} → Answers t asked room r room₁ → Answers t asked room r' room₂ → (r ≡ r') × (room₁ ≡ room₂)
 answer_unique p q = (p.is ∙ sym q.is, p.room_is ∙ sym q.room_is)
+
+pub all_pairs_unique : {values r r' : List ℕ} → AllPairs values r → AllPairs values r' → r ≡ r'
+all_pairs_unique p q = p.is ∙ sym q.is

@@ -1,11 +1,12 @@
 -- What the table's calls promise: the answer, the table, and every byte of the room.
-use Rattle.std.specs.Prelude.{ℕ, ◌+◌, ◌*◌, ◌%◌, ◌≤◌, Bool, true, false, not, List, [], ◌∷◌, ◌≡◌, ltb, length, get_or, set, Result, Ok, Err}
+use Rattle.std.specs.Prelude.{ℕ, ◌+◌, ◌*◌, ◌≤◌, Bool, true, false, not, List, [], ◌∷◌, ◌≡◌, ltb, length, get_or, set, map, Option, Some, None, Result, Ok, Err}
 use Rattle.words.specs.Lists.{pick, both, over, over_at}
 use Rattle.packet.specs.declared.Refusal.{Refusal}
 use Rattle.packet.specs.declared.Refusal.TheVariants as refusal
-use Rattle.table.specs.Rows.{parameter_count, pairs_size, rows, place_of, trigger_allowed, row_allows, allowed, defaults_of}
-use Rattle.table.specs.Table.{Values, Pair, Reading, wrong_length, pairs, read_pairs, send_length_allowed, request_length_allowed, locked_in, settable, all_settable, changed, Outcome, done, refused, set_pairs, defaults, restored, set_defaults, power_up, value_of, member, asked_for, numbers_of, pair_bytes, answer_data}
+use Rattle.table.specs.Rows.{parameter_count, pairs_size, rows, place_of, supported, trigger_allowed, row_allows, allowed, defaults_of}
+use Rattle.table.specs.Table.{Values, Pair, read_pairs, send_length_allowed, request_length_allowed, locked_in, settable, all_settable, changed, Outcome, done, refused, set_pairs, defaults, restored, set_defaults, power_up, value_of, asked_for, numbers_of, pair_bytes, answer_data}
 use Rattle.table.specs.declared.Table.{Table}
+use Rattle.table.specs.declared.Setting.{Setting}
 
 -- What a table stands for.
 abbrev pub values_of : Table → Values
@@ -56,46 +57,41 @@ pub record Answers (t : Table) (asked room : List ℕ) (r : Result ℕ Refusal) 
   pub is : r ≡ pick (ltb (length room) pairs_size) (Err refusal.Room) (Ok (length (answer_data (values_of t) asked)))
   pub room_is : room' ≡ over (pick (ltb (length room) pairs_size) [] (answer_data (values_of t) asked)) room
 
+abbrev pub showing : List ℕ → Values
+showing values = record { present = values; permanent = []; locked = [] }
+
+-- All pairs, in rising order.
+pub record AllPairs (values r : List ℕ) : Type 0 where
+  pub is : r ≡ pair_bytes (showing values) (numbers_of rows)
+
 -- ---- the functions inside
 
 pub record Restores (locked : List Bool) (values r : List ℕ) : Type 0 where
   pub is : r ≡ restored locked values (defaults_of rows)
 
-pub record UnlessLocked (locked : Bool) (value default r : ℕ) : Type 0 where
-  pub is : r ≡ pick locked value default
+-- A parameter that has a row is found at its place.
+pub record Place (number : ℕ) (r : Option ℕ) : Type 0 where
+  pub is : r ≡ pick (supported number) (Some (place_of number)) None
 
-pub record Place (number r : ℕ) : Type 0 where
-  pub is : r ≡ place_of number
-  pub most : r ≤ parameter_count
+-- A setting as a row of the rules.
+abbrev pub row_of : Setting → List ℕ
+row_of s = s.number ∷ s.lowest ∷ s.highest ∷ s.default ∷ []
 
-pub record RowAllows (at value : ℕ) (r : Bool) : Type 0 where
-  pub is : r ≡ row_allows (get_or rows at []) value
+pub record Takes (s : Setting) (value : ℕ) (r : Bool) : Type 0 where
+  pub is : r ≡ row_allows (row_of s) value
 
 pub record TriggerAllowed (value : ℕ) (r : Bool) : Type 0 where
   pub is : r ≡ trigger_allowed value
 
--- The pairs of an even number of bytes.
-unfoldable pub pairs_of : Reading → List Pair
-pairs_of wrong_length = []
-pairs_of (pairs ps) = ps
-
-pub record Even (bytes : List ℕ) : Type 0 where
-  pub is : length bytes % 2 ≡ 0
+-- Pairs as two bytes each.
+abbrev pub pair_of : List ℕ → Pair
+pair_of bytes = record { number = get_or bytes 0 0; value = get_or bytes 1 0 }
 
 pub record Settable (locked : List Bool) (number value : ℕ) (r : Bool) : Type 0 where
   pub is : r ≡ settable locked (record { number = number; value = value })
 
-pub record AllSettable (locked : List Bool) (bytes : List ℕ) (r : Bool) : Type 0 where
-  pub is : r ≡ all_settable locked (pairs_of (read_pairs bytes))
-
--- Whether a list may be set, whatever the values are.
-unfoldable pub judged_of : List Bool → Reading → Result Unit Refusal
-judged_of locked wrong_length = Err refusal.Data
-judged_of locked (pairs ps) = pick (all_settable locked ps) (Ok tt) (Err refusal.Setting)
-
-pub record Judges (locked : List Bool) (bytes : List ℕ) (r : Result Unit Refusal) : Type 0 where
-  pub is : r ≡ judged_of locked (read_pairs bytes)
-  pub even : r ≡ Ok tt → Even bytes
+pub record AllSettable (locked : List Bool) (chunks : List (List ℕ)) (r : Bool) : Type 0 where
+  pub is : r ≡ all_settable locked (map pair_of chunks)
 
 -- A value for each parameter.
 pub record Full (values : List ℕ) : Type 0 where
@@ -104,22 +100,8 @@ pub record Full (values : List ℕ) : Type 0 where
 pub record Puts (values : List ℕ) (number value : ℕ) (r : List ℕ) : Type 0 where
   pub is : r ≡ set values (place_of number) value
 
-pub record PutsIf (asked : Bool) (values : List ℕ) (number value : ℕ) (r : List ℕ) : Type 0 where
-  pub is : r ≡ pick asked (set values (place_of number) value) values
-
-pub record Changes (t : Table) (bytes : List ℕ) (forever : Bool) (r : Table) : Type 0 where
-  pub is : r ≡ table_of (changed forever (pairs_of (read_pairs bytes)) (values_of t))
-
-pub record AsksAll (asked : List ℕ) (r : Bool) : Type 0 where
-  pub is : r ≡ member 0xFE asked
-
-abbrev pub showing : List ℕ → Values
-showing values = record { present = values; permanent = []; locked = [] }
-
-pub record AllPairs (values room : List ℕ) (r : ℕ) (room' : List ℕ) : Type 0 where
-  pub is : r ≡ length (pair_bytes (showing values) (numbers_of rows))
-  pub room_is : room' ≡ over (pair_bytes (showing values) (numbers_of rows)) room
-  pub most : r ≤ 2 * parameter_count
+pub record Changes (t : Table) (chunks : List (List ℕ)) (forever : Bool) (r : Table) : Type 0 where
+  pub is : r ≡ table_of (changed forever (map pair_of chunks) (values_of t))
 
 pub record AskedPairs (values asked room : List ℕ) (r : ℕ) (room' : List ℕ) : Type 0 where
   pub is : r ≡ length (pair_bytes (showing values) (asked_for [] asked))

@@ -1,5 +1,5 @@
 -- `table::defaults` meets its contract: the call below it, with nothing locked. Assumes nothing.
-use Rattle.table.proofs.Setting.{defaults_made}
+use Rattle.table.proofs.Changing.{defaults_made}
 use Rattle.table.proofs.defaults.Goals as goal
 
 pub returns : goal.returns

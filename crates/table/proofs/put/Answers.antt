@@ -1,10 +1,13 @@
 -- `table::put` meets its contract: a store at its place, none where it has none. Assumes nothing.
-use native.Mathlib.Omega.{arith}
-use Rattle.table.proofs.Setting.{put_at, put_none}
+use Rattle.table.proofs.Finding.{found_most}
+use Rattle.table.proofs.Changing.{put_at, put_none}
 use Rattle.table.proofs.put.Goals as goal
 
-pub returns-then-at-lt-PARAMETER_COUNT : goal.returns-then-at-lt-PARAMETER_COUNT
-returns-then-at-lt-PARAMETER_COUNT c = put_at c.place-at.ensures
+pub bounds-values-at : goal.bounds-values-at
+bounds-values-at c = found_most c.in-Some.ensures
 
-pub returns-else-at-lt-PARAMETER_COUNT : goal.returns-else-at-lt-PARAMETER_COUNT
-returns-else-at-lt-PARAMETER_COUNT c = put_none c.requires c.place-at.ensures (omega arith)
+pub returns-in-Some : goal.returns-in-Some
+returns-in-Some c = put_at c.in-Some.ensures
+
+pub returns-in_default : goal.returns-in_default
+returns-in_default c = put_none c.requires c.in_default.ensures

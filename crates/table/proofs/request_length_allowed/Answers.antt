@@ -1,9 +1,13 @@
 -- `table::request_length_allowed` meets its contract. Assumes nothing.
-use Rattle.table.proofs.Setting.{request_none, request_some}
+use mathlib.Core.Path.{sym, ◌∙◌}
+use lib.ListN.{length}
+use borrow.Author.Tests.{eqb-true, eqb-false}
+use Rattle.table.proofs.Changing.{request_none, request_some}
 use Rattle.table.proofs.request_length_allowed.Goals as goal
 
-pub returns-then-data-eq0 : goal.returns-then-data-eq0
-returns-then-data-eq0 c = request_none c.if-data-eq0.true
+pub returns-then-not-is_empty : goal.returns-then-not-is_empty
+returns-then-not-is_empty c = request_some (eqb-false (length c.args.data.now) 0 (sym c.is_empty.ensures ∙ c.if-not-is_empty.true))
 
-pub returns : goal.returns
-returns c = request_some c.if-data-eq0.false
+pub returns-else-not-is_empty : goal.returns-else-not-is_empty
+returns-else-not-is_empty c =
+    rw c.if-not-is_empty.false (request_none (eqb-true (length c.args.data.now) 0 (sym c.is_empty.ensures ∙ c.if-not-is_empty.false)))

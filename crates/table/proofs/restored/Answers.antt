@@ -1,41 +1,14 @@
--- `table::restored` meets its contract: at each turn the first i values are restored. The measure is what is left of the rows.
--- Assumes nothing.
+-- `table::restored` meets its contract: each value by the library's `from_fn`. Assumes nothing.
 use native.Mathlib.Omega.{arith}
+use lib.ListN.{get_or}
+use mathlib.Core.Bool.{false}
 use borrow.Author.Rules.{rules}
-use Rattle.table.specs.Rows.{rows}
-use Rattle.table.proofs.Finding.{restoring_none, restoring_more, restoring_all}
+use borrow.Author.Tests.{tests}
+use Rattle.words.specs.Lists.{pick}
+use Rattle.table.proofs.Finding.{setting_at, made_from, restored_all}
 use Rattle.table.proofs.restored.Goals as goal
 
-pub loop-i-init : goal.loop-i-init
-loop-i-init c = restoring_none (search rules)
-
-pub bounds-locked-i : goal.bounds-locked-i
-bounds-locked-i c = omega arith
-
-pub bounds-values-i : goal.bounds-values-i
-bounds-values-i c = omega arith
-
-pub offset_bounds-i : goal.offset_bounds-i
-offset_bounds-i c = omega arith
-
-pub bounds-i : goal.bounds-i
-bounds-i c = omega arith
-
-pub bounds-3 : goal.bounds-3
-bounds-3 c = omega arith
-
-pub bounds-next-i : goal.bounds-next-i
-bounds-next-i c = omega arith
-
-pub overflow_add-i : goal.overflow_add-i
-overflow_add-i c = omega arith
-
-pub loop-i-smaller : goal.loop-i-smaller
-loop-i-smaller c = omega arith
-
-pub loop-i-preserved : goal.loop-i-preserved
-unfolding rows
-loop-i-preserved c = restoring_more c.loop-i.invariant (omega arith) c.unless_locked.ensures
-
 pub returns : goal.returns
-returns c = restoring_all c.loop-i.invariant (omega arith)
+returns c =
+    restored_all c.from_fn.ensures.items.long
+    (λ i h. made_from _ _ c.from_fn.result (λ k. pick (get_or c.args.locked k false) (get_or c.args.values k 0) (setting_at k).default) 9 0 (λ k y q w. search (rules, tests)) c.from_fn.ensures.items.each i (omega arith) (omega arith))

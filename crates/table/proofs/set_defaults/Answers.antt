@@ -1,5 +1,5 @@
 -- `table::set_defaults` meets its contract: both values are restored. Assumes nothing.
-use Rattle.table.proofs.Setting.{defaults_set}
+use Rattle.table.proofs.Changing.{defaults_set}
 use Rattle.table.proofs.set_defaults.Goals as goal
 
 pub returns : goal.returns

@@ -1,24 +1,21 @@
--- `table::trigger_allowed` meets its contract: one law for the four values, one for the last test. Assumes nothing.
-use mathlib.Core.Path.{refl}
+-- `table::trigger_allowed` meets its contract. Assumes nothing.
+use native.Mathlib.Omega.{arith}
+use Rattle.std.proofs.lemmas.Bool.Decides.{nat_tests}
 use Rattle.table.specs.Rows.{trigger_allowed}
-use Rattle.table.proofs.Finding.{trigger_right, trigger_last}
 use Rattle.table.proofs.trigger_allowed.Goals as goal
 
-pub returns-then-value-eq0 : goal.returns-then-value-eq0
+pub returns-in_default : goal.returns-in_default
 unfolding trigger_allowed
-returns-then-value-eq0 c = trigger_right 0 c.if-value-eq0.true refl
+returns-in_default c = record { is = grind (arith, nat_tests) }
 
-pub returns-then-value-eq2 : goal.returns-then-value-eq2
+pub returns-in_default-2 : goal.returns-in_default-2
 unfolding trigger_allowed
-returns-then-value-eq2 c = trigger_right 2 c.if-value-eq2.true refl
+returns-in_default-2 c = record { is = grind (arith, nat_tests) }
 
-pub returns-then-value-eq4 : goal.returns-then-value-eq4
+pub returns-in-0 : goal.returns-in-0
 unfolding trigger_allowed
-returns-then-value-eq4 c = trigger_right 4 c.if-value-eq4.true refl
+returns-in-0 c = record { is = grind (arith, nat_tests) }
 
-pub returns-then-value-eq7 : goal.returns-then-value-eq7
+pub returns-in-0-2 : goal.returns-in-0-2
 unfolding trigger_allowed
-returns-then-value-eq7 c = trigger_right 7 c.if-value-eq7.true refl
-
-pub returns : goal.returns
-returns c = trigger_last c.if-value-eq0.false c.if-value-eq2.false c.if-value-eq4.false c.if-value-eq7.false
+returns-in-0-2 c = record { is = grind (arith, nat_tests) }
