@@ -1,55 +1,51 @@
 -- What the reader of a form finds: one law for each `return`, and what its loops keep. Assumes nothing.
 use Prim.Native.Nat.{ℕ, zero, suc, ◌+◌, ◌*◌, ◌≤◌, ◌<◌}
-use mathlib.Core.Path.{◌≡◌, refl, sym, ◌∙◌}
+use mathlib.Core.Path.{◌≡◌, refl, sym, ap, ◌∙◌}
 use mathlib.Core.Bool.{Bool, true, false}
 use mathlib.Core.List.{List, [], ◌∷◌}
 use native.Mathlib.Numerals.{add-one}
 use native.Mathlib.Omega.{arith}
-use lib.Dec.{eqb}
+use mir.Val.{bool_byte}
+use lib.Dec.{eqb, ltb}
 use lib.ListN.{length, get_or, take, drop, set, drop_of_length-le}
 use lib.Seq.{drop-cons, drop-drop, get_or-drop}
-use borrow.Author.Tests.{lt-ltb}
+use borrow.Author.Tests.{lt-ltb, le-ltb}
 use Rattle.words.specs.Lists.{pick, both, same_bytes, Compared}
 use Rattle.words.proofs.Lists.{other_length, take_over}
+use Rattle.std.proofs.lemmas.Grind.{same_number_lists}
 use Rattle.words.proofs.Loops.{Filling, filled_none, filled_more, filled_all}
 use Rattle.packet.specs.declared.Refusal.TheVariants.{Form}
 use Rattle.table.specs.Rows.{parameter_count, rows, supported, row_allows, allowed}
 use Rattle.table.specs.Promises.{Allowed, values_of, changed_of}
 use Rattle.table.specs.declared.Table.{Table}
 use Rattle.std.specs.Prelude.{Ok, Err}
-use Rattle.table.proofs.Finding.{many, place_at}
+use Rattle.table.proofs.Finding.{many, place_at, setting_at, setting_row}
 use Rattle.saved.specs.Saved.{edition1, form_of, values_in, locks_in, standing, rows_allow, is_form, read_form}
-use Rattle.saved.specs.Promises.{least_size, Loads, Puts, Stands, ValuesIn, LocksIn, ComesNext, Passed, Exact, AllAllowed}
+use Rattle.saved.specs.Promises.{least_size, Loads, Puts, Stands, ValuesIn, LocksIn, ComesNext, Exact, AllAllowed}
 use Rattle.saved.proofs.Forms.{one_most, length_values, length_locks_in}
 use Rattle.saved.proofs.First.{length_form1}
 
+-- The number of a setting is its row's.
+number_row : (i : ℕ) → i < parameter_count → (setting_at i).number ≡ get_or (get_or rows i []) 0 0
+number_row i h = ap (λ (row : List ℕ). get_or row 0 0) (sym (setting_row i h))
+
 -- ---- `values_in`
 
-value_at : (table : List (List ℕ)) (bytes : List ℕ) (i : ℕ) → i < length table → get_or (values_in edition1 table bytes) i 0 ≡ get_or bytes (i + i + 1) 0
+value_at : (table : List (List ℕ)) (bytes : List ℕ) (i : ℕ) → i < length table → get_or (values_in edition1 table bytes) i 0 ≡ get_or bytes (2 * i + 1) 0
 unfolding values_in
 value_at [] bytes i h = absurd (omega arith)
 value_at (row ∷ rest) bytes zero h = refl
 value_at (row ∷ rest) bytes (suc i) h =
-    let p : 2 + (i + i + 1) ≡ suc i + suc i + 1 = omega arith in
-    value_at rest (drop 2 bytes) i (omega arith) ∙ (get_or-drop 2 bytes (i + i + 1) 0 ∙ rw p refl)
+    let p : 2 + (2 * i + 1) ≡ 2 * suc i + 1 = omega arith in
+    value_at rest (drop 2 bytes) i (omega arith) ∙ (get_or-drop 2 bytes (2 * i + 1) 0 ∙ rw p refl)
 
--- The first i values are read.
-pub record Taking (bytes values : List ℕ) (i : ℕ) : Type 0 where
-  pub filling : Filling (values_in edition1 rows bytes) values i
-
-pub taking_none : {bytes values : List ℕ} → length values ≡ parameter_count → Taking bytes values 0
-taking_none {bytes} e = record { filling = filled_none (let l = length_values edition1 rows bytes in let m = many in omega arith) }
-
-pub taking_more : {bytes values : List ℕ} {i : ℕ} → Taking bytes values i → i < parameter_count → Taking bytes (set values i (get_or bytes (i + i + 1) 0)) (i + 1)
-taking_more {bytes} {values} {i} k h =
-    let l = length_values edition1 rows bytes in
+pub values_taken : {bytes values : List ℕ} → length values ≡ parameter_count → ((i : ℕ) → i < parameter_count → get_or values i 0 ≡ get_or bytes (2 * i + 1) 0) → ValuesIn bytes values
+values_taken {bytes} {values} l k =
+    let long = length_values edition1 rows bytes in
     let m = many in
-    record { filling = filled_more 0 (get_or bytes (i + i + 1) 0) k.filling (omega arith) (sym (value_at rows bytes i (omega arith))) }
+    record { is = same_number_lists values (values_in edition1 rows bytes) (omega arith) (λ i h. k i (omega arith) ∙ sym (value_at rows bytes i (omega arith))) }
 
-pub taking_all : {bytes values : List ℕ} {i : ℕ} → Taking bytes values i → parameter_count ≤ i → ValuesIn bytes values
-taking_all {bytes} k h = record { is = filled_all k.filling (let l = length_values edition1 rows bytes in let m = many in omega arith) }
-
--- ---- `comes_next`, `passed` and `locks_in`
+-- ---- `comes_next` and `locks_in`
 
 take_one : (bytes : List ℕ) (at number : ℕ) → at < length bytes → same_bytes (take 1 (drop at bytes)) (number ∷ []) ≡ both (eqb (get_or bytes at 0) number) true
 unfolding same_bytes
@@ -62,15 +58,9 @@ both_true false = refl
 pub next_found : {bytes : List ℕ} {at number : ℕ} → at < length bytes → ComesNext bytes at number (eqb (get_or bytes at 0) number)
 next_found {bytes} {at} {number} h = record { is = sym (take_one bytes at number h ∙ both_true (eqb (get_or bytes at 0) number)) }
 
-pub next_none : {bytes : List ℕ} {at number : ℕ} → length bytes ≤ at → ComesNext bytes at number false
+pub next_none : {bytes : List ℕ} {at number : ℕ} → length bytes ≤ at → ComesNext bytes at number (ltb at (length bytes))
 unfolding same_bytes
-next_none {bytes} {at} h = record { is = sym (rw (drop_of_length-le bytes {i = at} h) refl) }
-
-pub passed_one : {at : ℕ} {here : Bool} → here ≡ true → Passed at here (at + 1)
-passed_one e = record { is = rw e refl }
-
-pub passed_none : {at : ℕ} {here : Bool} → here ≡ false → Passed at here at
-passed_none e = record { is = rw e (omega arith) }
+next_none {bytes} {at} h = record { is = le-ltb at (length bytes) h ∙ sym (rw (drop_of_length-le bytes {i = at} h) refl) }
 
 -- The first i locks are read, and the rest is read from here on.
 pub record Unlocking (bytes : List ℕ) (locked : List Bool) (at i : ℕ) : Type 0 where
@@ -101,19 +91,26 @@ at_head l rest i x d h e = let k = drop-cons l i d h in cc
 at_tail : {A : Type 0} (l rest : List A) (i : ℕ) (x d : A) → i < length l → drop i l ≡ x ∷ rest → drop (suc i) l ≡ rest
 at_tail l rest i x d h e = let k = drop-cons l i d h in cc
 
-pub unlocking_more : {bytes : List ℕ} {locked : List Bool} {at i at' : ℕ} {b : Bool} → Unlocking bytes locked at i → i < parameter_count →
-    ComesNext bytes at (get_or (get_or rows i []) 0 0) b → Passed at b at' → Unlocking bytes (set locked i b) at' (i + 1)
-unlocking_more {bytes} {locked} {at} {i} {at'} {b} k h n p =
+-- A test as a number.
+byte_of : (b : Bool) → bool_byte b ≡ pick b 1 0
+byte_of true = refl
+byte_of false = refl
+
+pub unlocking_more : {bytes : List ℕ} {locked : List Bool} {at i step : ℕ} {b : Bool} → Unlocking bytes locked at i → i < parameter_count →
+    ComesNext bytes at (setting_at i).number b → step ≡ bool_byte b → Unlocking bytes (set locked i b) (at + step) (i + 1)
+unlocking_more {bytes} {locked} {at} {i} {step} {b} k h n q =
+    let p : at + step ≡ at + pick b 1 0 = ap (λ (m : ℕ). at + m) (q ∙ byte_of b) in
+    let row = number_row i h in
     let l = locks_long bytes in
     let m = many in
     let o = one_most b in
-    let s = k.rest ∙ lock_step bytes at i b (omega arith) n in
+    let s = k.rest ∙ lock_step bytes at i b (omega arith) (rw row at n) in
     let whole = locks_in edition1 rows bytes in
     let rest = locks_in edition1 (drop (suc i) rows) (drop (at + pick b 1 0) bytes) in
     record {
       filling = filled_more false b k.filling (omega arith) (at_head whole rest i b false (omega arith) s);
-      few = omega (arith, k.few, p.is);
-      rest = rw (add-one i, p.is) (at_tail whole rest i b false (omega arith) s);
+      few = omega (arith, k.few, p);
+      rest = rw (add-one i, p) (at_tail whole rest i b false (omega arith) s);
     }
 
 pub unlocking_all : {bytes : List ℕ} {locked : List Bool} {at i : ℕ} → Unlocking bytes locked at i → parameter_count ≤ i → LocksIn bytes locked
@@ -140,9 +137,9 @@ pub record Allowing (values : List ℕ) (i : ℕ) : Type 0 where
 pub allowing_none : {values : List ℕ} → length values ≡ parameter_count → Allowing values 0
 allowing_none e = record { at = omega arith; long = e; rest = refl }
 
-module _ {values : List ℕ} {i : ℕ} {r : Bool} (k : Allowing values i) (h : i < parameter_count) (a : Allowed (get_or (get_or rows i []) 0 0) (get_or values i 0) r) where
+module _ {values : List ℕ} {i : ℕ} {r : Bool} (k : Allowing values i) (h : i < parameter_count) (a : Allowed (setting_at i).number (get_or values i 0) r) where
   allow_here : row_allows (get_or rows i []) (get_or values i 0) ≡ r
-  allow_here = sym (a.is ∙ row_allowed i (get_or values i 0) (let m = many in omega arith))
+  allow_here = sym (a.is ∙ (ap (λ (n : ℕ). allowed n (get_or values i 0)) (number_row i h) ∙ row_allowed i (get_or values i 0) (let m = many in omega arith)))
 
   allow_one : rows_allow rows values ≡ both r (rows_allow (drop (suc i) rows) (drop (suc i) values))
   allow_one = k.rest ∙ (allow_step values i (let m = many in omega arith) (omega (arith, k.long)) ∙ rw (allow_here) refl)

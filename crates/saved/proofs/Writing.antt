@@ -1,74 +1,53 @@
 -- What the writer leaves in its room: one law for each `return`, and what its loops keep. Assumes nothing.
-use Prim.Native.Nat.{ℕ, ◌+◌, ◌-◌, ◌≤◌, ◌<◌}
+use Prim.Native.Nat.{ℕ, suc, ◌+◌, ◌-◌, ◌≤◌, ◌<◌}
 use mathlib.Core.Path.{◌≡◌, refl, sym, ap, ◌∙◌}
 use mathlib.Core.Bool.{Bool, true, false}
 use mathlib.Core.List.{List, [], ◌∷◌, ◌++◌, append_assoc, append-nil}
 use native.Mathlib.Numerals.{add-one}
 use native.Mathlib.Omega.{arith}
 use lib.Dec.{ltb}
-use lib.ListN.{length, get_or, take, drop, set, length-append, length-set, length-take}
-use lib.Seq.{take-suc, take_all, length-take-le}
+use lib.ListN.{length, get_or, take, drop, set, length-append, length-set, length-take, length-drop}
+use lib.Seq.{get_or-drop, take-suc, take_all, length-take-le}
 use borrow.Author.Tests.{lt-ltb, le-ltb}
 use Rattle.words.specs.Lists.{pick, over, Over}
-use Rattle.words.proofs.Lists.{never, over_nil, back, behind, set_over_at, over_take, over_behind}
+use Rattle.words.proofs.Lists.{never, length_over, part_over, over_nil, back, behind, set_over_at, over_take, over_behind}
 use Rattle.packet.specs.declared.Refusal.{Refusal}
 use Rattle.packet.specs.declared.Refusal.TheVariants.{Room}
-use Rattle.table.specs.Rows.{rows}
-use Rattle.table.specs.Promises.{values_of}
+use Rattle.table.specs.Rows.{parameter_count, rows}
+use Rattle.table.specs.Table.{Values, value_of, numbers_of, pair_bytes}
+use Rattle.table.specs.Promises.{values_of, showing, AllPairs}
 use Rattle.table.specs.declared.Table.{Table}
 use Rattle.std.specs.Prelude.{Result, Ok, Err}
-use Rattle.table.proofs.Finding.{many}
-use Rattle.table.proofs.Answering.{two_stores}
+use Rattle.table.proofs.Finding.{many, place_at, one_more, setting_at, setting_row}
+use Rattle.table.proofs.Answering.{over_whole}
 use Rattle.saved.specs.Saved.{edition1, pairs_of, locks_of, lock_count, form_of, set_size}
-use Rattle.saved.specs.Promises.{Saves, Puts, PutsPairs, PutsLocks, PutsLock, lock_bytes}
-use Rattle.saved.proofs.Forms.{one_most, pairs_snoc, locks_snoc, count_snoc, count_most}
+use Rattle.saved.specs.Promises.{Saves, Puts, PutsLocks, lock_bytes}
+use Rattle.saved.proofs.Forms.{one_most, locks_snoc, count_snoc, count_most}
 use Rattle.saved.proofs.First.{length_pairs1, length_locks1}
 
 -- The rows up to one more.
 more_rows : (i : ℕ) → i < length rows → take (i + 1) rows ≡ take i rows ++ (get_or rows i [] ∷ [])
 more_rows i h = rw (add-one i) (take-suc rows i [] h)
 
--- ---- `put_pairs`
+-- ---- the pairs
 
--- The pairs of the first i rows are written.
-pub record Pairing (values room₀ room : List ℕ) (i : ℕ) : Type 0 where
-  pub at : i ≤ length rows
-  pub fits : length rows + length rows ≤ length room₀
-  pub long : length room ≡ length room₀
-  pub is : room ≡ over (pairs_of edition1 (take i rows) values) room₀
+pairs_from : (table : List (List ℕ)) (values : List ℕ) (t : Values) →
+    ((k : ℕ) → k < length table → value_of t (get_or (get_or table k []) 0 0) ≡ get_or values k 0) → pair_bytes t (numbers_of table) ≡ pairs_of edition1 table values
+unfolding pair_bytes numbers_of pairs_of
+pairs_from [] values t k = refl
+pairs_from (row ∷ rest) values t k =
+    rw (
+      k 0 (omega arith),
+      pairs_from rest (drop 1 values) t (λ i h. k (suc i) (omega arith) ∙ sym (rw (get_or-drop 1 values i 0, one_more i) refl)),
+    )
+    refl
 
-pub pairing_none : {values room : List ℕ} → length rows + length rows ≤ length room → Pairing values room room 0
-unfolding over pairs_of
-pairing_none h = record { at = omega arith; fits = h; long = refl; is = refl }
+-- The table's pairs are those of the form.
+pub pairs_written : (values : List ℕ) → pair_bytes (showing values) (numbers_of rows) ≡ pairs_of edition1 rows values
+unfolding value_of
+pairs_written values = pairs_from rows values (showing values) (λ k h. rw (place_at k h) refl)
 
-pub pairing_more : {values room₀ room : List ℕ} {i : ℕ} → Pairing values room₀ room i → i < length rows →
-    Pairing values room₀ (set (set room (i + i) (get_or (get_or rows i []) 0 0)) (i + i + 1) (get_or values i 0)) (i + 1)
-pairing_more {values} {room₀} {room} {i} k h =
-    let n = get_or (get_or rows i []) 0 0 in
-    let l = length-take-le i rows (omega arith) in
-    let p = length_pairs1 (take i rows) values in
-    let more = rw (l) at (pairs_snoc edition1 (take i rows) (get_or rows i []) values) in
-    record {
-      at = omega arith;
-      fits = k.fits;
-      long = simp length-set k.long;
-      is =
-          two_stores room (i + i) n (get_or values i 0) (omega (arith, k.fits, k.long))
-          ∙ rw (k.is, more_rows i h, more)
-          (over_behind (i + i) (pairs_of edition1 (take i rows) values) (n ∷ get_or values i 0 ∷ []) room₀ (omega arith));
-    }
-
-pub pairing_all : {values room₀ room : List ℕ} {i : ℕ} → Pairing values room₀ room i → length rows ≤ i → PutsPairs values room₀ room
-pairing_all {values} {i = i} k h = record { room_is = k.is ∙ rw (take_all i rows h) refl }
-
--- ---- `put_lock` and `put_locks`
-
-module _ {locked : Bool} {number count : ℕ} {room : List ℕ} where
-  pub lock_put : locked ≡ true → PutsLock locked number count room (count + 1) (set room (count + 1) number)
-  lock_put e = record { is = rw e refl; room_is = rw e refl }
-
-  pub lock_passed : locked ≡ false → PutsLock locked number count room count room
-  lock_passed e = record { is = rw e (omega arith); room_is = rw e refl }
+-- ---- `put_locks`
 
 -- The numbers of the locked ones among the first i rows are written, behind the first byte.
 pub record Locking (locked : List Bool) (room₀ room : List ℕ) (count i : ℕ) : Type 0 where
@@ -105,9 +84,10 @@ same_long : (count n : ℕ) (room : List ℕ) (b : Bool) → length (pick b (set
 same_long count n room true = length-set room (count + 1) n
 same_long count n room false = refl
 
-pub locking_more : {locked : List Bool} {room₀ room : List ℕ} {count i : ℕ} {count' : ℕ} {room' : List ℕ} → Locking locked room₀ room count i → i < length rows →
-    PutsLock (get_or locked i false) (get_or (get_or rows i []) 0 0) count room count' room' → Locking locked room₀ room' count' (i + 1)
-locking_more {locked} {room₀} {room} {count} {i} {count'} {room'} k h p =
+locking_more : {locked : List Bool} {room₀ room : List ℕ} {count i : ℕ} {count' : ℕ} {room' : List ℕ} → Locking locked room₀ room count i → i < length rows →
+    count' ≡ count + pick (get_or locked i false) 1 0 → room' ≡ pick (get_or locked i false) (set room (count + 1) (get_or (get_or rows i []) 0 0)) room →
+    Locking locked room₀ room' count' (i + 1)
+locking_more {locked} {room₀} {room} {count} {i} {count'} {room'} k h count_by room_by =
     let n = get_or (get_or rows i []) 0 0 in
     let l = length-take-le i rows (omega arith) in
     let o = one_most (get_or locked i false) in
@@ -116,23 +96,32 @@ locking_more {locked} {room₀} {room} {count} {i} {count'} {room'} k h p =
     record {
       at = omega arith;
       fits = k.fits;
-      long = rw p.room_is (same_long count n room (get_or locked i false) ∙ k.long);
-      few = omega (arith, k.few, p.is);
-      count_is = rw (more_rows i h) (omega (arith, p.is, k.count_is));
+      long = rw room_by (same_long count n room (get_or locked i false) ∙ k.long);
+      few = omega (arith, k.few, count_by);
+      count_is = rw (more_rows i h) (omega (arith, count_by, k.count_is));
       is =
           rw (more_rows i h, locks)
           (locked_by count n (locks_of edition1 (take i rows) locked) room₀ room room' (get_or locked i false) (omega (arith, k.fits))
-          (omega (arith, k.fits, k.long, k.few)) (length_locks1 (take i rows) locked ∙ sym k.count_is) k.is p.room_is);
+          (omega (arith, k.fits, k.long, k.few)) (length_locks1 (take i rows) locked ∙ sym k.count_is) k.is room_by);
     }
+
+module _ {locked : List Bool} {room₀ room : List ℕ} {count i : ℕ} (k : Locking locked room₀ room count i) (h : i < parameter_count) where
+  pub locking_one : get_or locked i false ≡ true → Locking locked room₀ (set room (count + 1) (setting_at i).number) (count + 1) (i + 1)
+  locking_one e =
+      let n : (setting_at i).number ≡ get_or (get_or rows i []) 0 0 = ap (λ (row : List ℕ). get_or row 0 0) (sym (setting_row i h)) in
+      locking_more k (let m = many in omega arith) (rw e refl) (rw (e, n) refl)
+
+  pub locking_not : get_or locked i false ≡ false → Locking locked room₀ room count (i + 1)
+  locking_not e = locking_more k (let m = many in omega arith) (rw e (omega arith)) (rw e refl)
 
 first_byte : (count : ℕ) (locks room : List ℕ) → 0 < length room → set (over (take 1 room ++ locks) room) 0 count ≡ over (count ∷ locks) room
 unfolding over
 first_byte count locks [] h = absurd (omega arith)
 first_byte count locks (x ∷ xs) h = refl
 
-pub locking_all : {locked : List Bool} {room₀ room : List ℕ} {count i : ℕ} → Locking locked room₀ room count i → length rows ≤ i → PutsLocks locked room₀ (count + 1) (set room 0 count)
+pub locking_all : {locked : List Bool} {room₀ room : List ℕ} {count i : ℕ} → Locking locked room₀ room count i → parameter_count ≤ i → PutsLocks locked room₀ (count + 1) (set room 0 count)
 locking_all {locked} {room₀} {room} {count} {i} k h =
-    let whole = take_all i rows h in
+    let whole = take_all i rows (let m = many in omega arith) in
     let count_is : count ≡ lock_count rows locked = k.count_is ∙ rw whole refl in
     let l = length_locks1 rows locked in
     let m = count_most rows locked in
@@ -151,18 +140,22 @@ front_put {room = x ∷ []} h = absurd (omega arith)
 front_put {room = x ∷ y ∷ room} h = record { is = rw many refl }
 
 -- The parts of a form, each behind the one before it.
-pub form_put : {t : Table} {room room₁ room₂ part part₂ : List ℕ} {count : ℕ} → set_size ≤ length room → Over (1 ∷ length rows ∷ []) room room₁ →
-    PutsPairs t.permanent (take (length room₁ - 2) (drop 2 room₁)) part → room₂ ≡ back 2 part room₁ →
+pub form_put : {t : Table} {room room₁ room₂ all part part₂ : List ℕ} {count : ℕ} → set_size ≤ length room → Over (1 ∷ length rows ∷ []) room room₁ →
+    AllPairs t.permanent all → part ≡ all → room₂ ≡ take 2 room₁ ++ (part ++ drop 18 (drop 2 room₁)) →
     PutsLocks t.locked (take (length room₂ - 20) (drop 20 room₂)) count part₂ → Puts t room (20 + count) (back 20 part₂ room₂)
 unfolding form_of
-form_put {t} {room} {room₁} {room₂} {part} {part₂} {count} h front pairs f locks =
+form_put {t} {room} {room₁} {room₂} {all} {part} {part₂} {count} h front pairs same f locks =
     let m = many in
     let p = pairs_of edition1 rows t.permanent in
     let q = lock_bytes t.locked in
     let lp = length_pairs1 rows t.permanent in
     let lq = length_locks1 rows t.locked in
     let c = count_most rows t.locked in
-    let both : room₂ ≡ over (1 ∷ length rows ∷ p) room = f ∙ behind 2 (1 ∷ length rows ∷ []) p room room₁ part refl (omega arith) front.is pairs.room_is in
+    let l : length room₁ ≡ length room = ap length front.is ∙ length_over (1 ∷ length rows ∷ []) room (omega arith) in
+    let whole : length (take 18 (drop 2 room₁)) ≡ length p = simp (length-take, length-drop) (omega arith) in
+    let written : part ≡ over p (take 18 (drop 2 room₁)) = same ∙ (pairs.is ∙ (pairs_written t.permanent ∙ sym (over_whole p (take 18 (drop 2 room₁)) whole))) in
+    let both : room₂ ≡ over (1 ∷ length rows ∷ p) room =
+    f ∙ (part_over 2 18 p room₁ part (omega arith) (omega arith) written ∙ rw front.is (over_behind 2 (1 ∷ length rows ∷ []) p room refl)) in
     record {
       is = let l = length-append p q in omega (arith, locks.is);
       room_is = behind 20 (1 ∷ length rows ∷ p) q room room₂ part₂ (omega arith) (omega arith) both locks.room_is;

@@ -1,12 +1,12 @@
 -- What the calls of a saved set promise: the answer, the table, and every byte of the room.
-use Rattle.std.specs.Prelude.{ℕ, ◌+◌, ◌*◌, ◌≤◌, Bool, List, [], ◌∷◌, ◌≡◌, ltb, length, drop, take, set, Result, Ok, Err}
+use Rattle.std.specs.Prelude.{ℕ, ◌+◌, ◌*◌, ◌≤◌, Bool, List, [], ◌∷◌, ◌≡◌, ltb, length, drop, take, Result, Ok, Err}
 use Rattle.words.specs.Lists.{pick, both, over, same_bytes}
 use Rattle.packet.specs.declared.Refusal.{Refusal}
 use Rattle.packet.specs.declared.Refusal.TheVariants as refusal
 use Rattle.table.specs.Rows.{parameter_count, rows}
 use Rattle.table.specs.Promises.{values_of, table_of, changed_of}
 use Rattle.table.specs.declared.Table.{Table}
-use Rattle.saved.specs.Saved.{edition1, pairs_of, locks_of, lock_count, form_of, set_size, values_in, locks_in, standing, rows_allow, read_form}
+use Rattle.saved.specs.Saved.{edition1, locks_of, lock_count, form_of, set_size, values_in, locks_in, standing, rows_allow, read_form}
 
 -- Writing: 13 for room too small for the longest form; else the form, and nothing beyond it.
 pub record Saves (t : Table) (room : List ℕ) (r : Result ℕ Refusal) (room' : List ℕ) : Type 0 where
@@ -28,9 +28,6 @@ pub record Puts (t : Table) (room : List ℕ) (r : ℕ) (room' : List ℕ) : Typ
   pub room_is : room' ≡ over (form_of edition1 (values_of t)) room
   pub most : r ≤ set_size
 
-pub record PutsPairs (values room room' : List ℕ) : Type 0 where
-  pub room_is : room' ≡ over (pairs_of edition1 rows values) room
-
 abbrev pub lock_bytes : List Bool → List ℕ
 lock_bytes locked = lock_count rows locked ∷ locks_of edition1 rows locked
 
@@ -38,10 +35,6 @@ pub record PutsLocks (locked : List Bool) (room : List ℕ) (r : ℕ) (room' : L
   pub is : r ≡ length (lock_bytes locked)
   pub room_is : room' ≡ over (lock_bytes locked) room
   pub most : r ≤ 1 + parameter_count
-
-pub record PutsLock (locked : Bool) (number count : ℕ) (room : List ℕ) (r : ℕ) (room' : List ℕ) : Type 0 where
-  pub is : r ≡ count + pick locked 1 0
-  pub room_is : room' ≡ pick locked (set room (count + 1) number) room
 
 pub record Stands (form : List ℕ) (r : Table) : Type 0 where
   pub is : r ≡ table_of (standing edition1 form)
@@ -54,9 +47,6 @@ pub record LocksIn (bytes : List ℕ) (r : List Bool) : Type 0 where
 
 pub record ComesNext (bytes : List ℕ) (at number : ℕ) (r : Bool) : Type 0 where
   pub is : r ≡ same_bytes (take 1 (drop at bytes)) (number ∷ [])
-
-pub record Passed (at : ℕ) (here : Bool) (r : ℕ) : Type 0 where
-  pub is : r ≡ at + pick here 1 0
 
 pub record Exact (t : Table) (form : List ℕ) (r : Bool) : Type 0 where
   pub is : r ≡ both (same_bytes form (form_of edition1 (values_of t))) (rows_allow rows t.permanent)

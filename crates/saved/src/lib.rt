@@ -5,9 +5,10 @@ ghost use Rattle.std.specs.Prelude.{◌+◌, ◌*◌, ◌≤◌, ◌<◌, [], �
 ghost use Rattle.words.specs.Lists.{Over};
 ghost use Rattle.table.specs.Rows.{parameter_count, rows};
 ghost use Rattle.saved.specs.Saved.{set_size};
-ghost use Rattle.saved.specs.Promises.{least_size, Saves, Loads, Puts, PutsPairs, PutsLocks, PutsLock, Stands, ValuesIn, LocksIn, ComesNext, Passed, Exact, AllAllowed};
+ghost use Rattle.saved.specs.Promises.{least_size, Saves, Loads, Puts, PutsLocks, Stands, ValuesIn, LocksIn, ComesNext, Exact, AllAllowed};
 
 use packet::Refusal;
+use std::array;
 use table::{PARAMETER_COUNT, SETTINGS, Table};
 
 // The edition's byte at the front of a form.
@@ -52,11 +53,9 @@ fn put(table: Table, room: &mut [u8]) -> usize
     requires { set_size ≤ length room.old }
     ensures { Puts table room.old result room.new }
 {
-    let values = table.permanent;
-    let locked = table.locked;
     put_front(room);
-    put_pairs(values, &mut room[FRONT_SIZE..]);
-    let count = put_locks(locked, &mut room[LOCKS_AT..]);
+    room[FRONT_SIZE..LOCKS_AT].copy_from_slice(&table::all_pairs(table.permanent));
+    let count = put_locks(table.locked, &mut room[LOCKS_AT..]);
     LOCKS_AT + count
 }
 
@@ -69,43 +68,20 @@ fn put_front(room: &mut [u8])
     room[1] = PARAMETER_COUNT as u8;
 }
 
-fn put_pairs(values: [u8; PARAMETER_COUNT], room: &mut [u8])
-    requires { 2 * parameter_count ≤ length room.old }
-    ensures { PutsPairs values room.old room.new }
-{
-    let mut i = 0;
-    while i < PARAMETER_COUNT {
-        room[i + i] = SETTINGS[i][0];
-        room[i + i + 1] = values[i];
-        i += 1;
-    }
-}
-
 // How many are locked and their numbers; how many bytes that is.
 fn put_locks(locked: [bool; PARAMETER_COUNT], room: &mut [u8]) -> usize
     requires { parameter_count < length room.old }
     ensures { PutsLocks locked room.old result room.new }
 {
     let mut count = 0;
-    let mut i = 0;
-    while i < PARAMETER_COUNT {
-        count = put_lock(locked[i], SETTINGS[i][0], count, room);
-        i += 1;
+    for (i, setting) in SETTINGS.iter().enumerate() {
+        if locked[i] {
+            count += 1;
+            room[count] = setting.number;
+        }
     }
     room[0] = count as u8;
     count + 1
-}
-
-// The number behind those before it, if it is locked; how many there are then.
-fn put_lock(locked: bool, number: u8, count: usize, room: &mut [u8]) -> usize
-    requires { count + 1 < length room.old }
-    ensures { PutsLock locked number count room.old result room.new }
-{
-    if locked {
-        room[count + 1] = number;
-        return count + 1;
-    }
-    count
 }
 
 // ---- reading
@@ -116,25 +92,19 @@ fn standing(form: &[u8]) -> Table
     ensures { Stands form.now result }
 {
     let values = values_in(&form[FRONT_SIZE..]);
-    let locked = locks_in(&form[LEAST_SIZE..]);
     Table {
+        locked: locks_in(&form[LEAST_SIZE..]),
         present: values,
         permanent: values,
-        locked,
     }
 }
 
+// The values stand behind their numbers.
 fn values_in(bytes: &[u8]) -> [u8; PARAMETER_COUNT]
     requires { 2 * parameter_count ≤ length bytes.now }
     ensures { ValuesIn bytes.now result }
 {
-    let mut values = [0u8; PARAMETER_COUNT];
-    let mut i = 0;
-    while i < PARAMETER_COUNT {
-        values[i] = bytes[i + i + 1];
-        i += 1;
-    }
-    values
+    array::from_fn(|i| bytes[2 * i + 1])
 }
 
 // A parameter is locked where its number comes next.
@@ -143,12 +113,10 @@ fn locks_in(bytes: &[u8]) -> [bool; PARAMETER_COUNT]
 {
     let mut locked = [false; PARAMETER_COUNT];
     let mut at = 0;
-    let mut i = 0;
-    while i < PARAMETER_COUNT {
-        let here = comes_next(bytes, at, SETTINGS[i][0]);
+    for (i, setting) in SETTINGS.iter().enumerate() {
+        let here = comes_next(bytes, at, setting.number);
         locked[i] = here;
-        at = passed(at, here);
-        i += 1;
+        at += usize::from(here);
     }
     locked
 }
@@ -156,44 +124,24 @@ fn locks_in(bytes: &[u8]) -> [bool; PARAMETER_COUNT]
 fn comes_next(bytes: &[u8], at: usize, number: u8) -> bool
     ensures { ComesNext bytes.now at number result }
 {
-    if at < bytes.len() {
-        return bytes[at] == number;
-    }
-    false
-}
-
-fn passed(at: usize, here: bool) -> usize
-    requires { at ≤ parameter_count }
-    ensures { Passed at here result }
-{
-    if here {
-        return at + 1;
-    }
-    at
+    at < bytes.len() && bytes[at] == number
 }
 
 // Whether the form is that of the set, byte by byte, and every value is allowed.
 fn exact(set: Table, form: &[u8]) -> bool
     ensures { Exact set form.now result }
 {
-    let mut again = [0u8; SET_SIZE];
+    let mut again = [0; SET_SIZE];
     let count = put(set, &mut again);
-    if words::same(form, &again[..count]) {
-        let values = set.permanent;
-        return all_allowed(values);
-    }
-    false
+    words::same(form, &again[..count]) && all_allowed(set.permanent)
 }
 
 // Whether every value is one that its parameter takes.
 pub fn all_allowed(values: [u8; PARAMETER_COUNT]) -> bool
     ensures { AllAllowed values result }
 {
-    let mut i = 0;
-    while i < PARAMETER_COUNT {
-        if table::allowed(SETTINGS[i][0], values[i]) {
-            i += 1;
-        } else {
+    for (i, setting) in SETTINGS.iter().enumerate() {
+        if !table::allowed(setting.number, values[i]) {
             return false;
         }
     }

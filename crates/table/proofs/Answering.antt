@@ -339,7 +339,7 @@ answer_by t asked room part ns count k h j a n m e =
     }
 
 -- What fills the whole room is all that is left in it.
-over_whole : (q room : List ℕ) → length room ≡ length q → over q room ≡ q
+pub over_whole : (q room : List ℕ) → length room ≡ length q → over q room ≡ q
 unfolding over
 over_whole q room e = rw (drop_of_length-le room {i = length q} (omega arith)) (append-nil q)
 

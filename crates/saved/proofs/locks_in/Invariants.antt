@@ -1,11 +1,6 @@
--- `saved::locks_in` meets its contract: at each turn the first i locks are read. The measure is what is left of the rows. Assumes nothing.
-use Prim.Native.Nat.{◌-◌}
-use Rattle.table.specs.Rows.{parameter_count}
+-- `saved::locks_in` meets its contract: at each turn the first i locks are read. Assumes nothing.
 use Rattle.saved.proofs.Reading.{Unlocking}
 use Rattle.saved.proofs.locks_in.Given as goal
 
 abbrev pub invariant-loop-i : goal.invariant-loop-i
 invariant-loop-i l = Unlocking l.bytes l.locked l.at l.i
-
-abbrev pub decreases-loop-i : goal.decreases-loop-i
-decreases-loop-i l = parameter_count - l.i
