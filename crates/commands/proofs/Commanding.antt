@@ -19,7 +19,7 @@ use Rattle.std.specs.Option.{ok_or}
 use Rattle.std.specs.Result.{IsErrAnd}
 use Rattle.std.proofs.lemmas.Result.{err_from_is_err_and}
 use Rattle.words.specs.Lists.{pick}
-use Rattle.table.proofs.Setting.{odd_read}
+use Rattle.table.proofs.Changing.{odd_read}
 use Rattle.commands.specs.Beeps.{beep_limit, beep_allowed, row_of}
 use Rattle.commands.specs.Commands.{Acted, denied, acted, named_by, length_allowed, reported, after_send, send_command, beep_command, effect, judged}
 use Rattle.commands.specs.Promises.{beep_at, beep_of, device_of, commanded_of, Names, LengthAllowed, SendBeepAllowed, Reports, Fit, Commands}

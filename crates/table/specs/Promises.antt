@@ -4,7 +4,7 @@ use Rattle.words.specs.Lists.{pick, both, over, over_at}
 use Rattle.packet.specs.declared.Refusal.{Refusal}
 use Rattle.packet.specs.declared.Refusal.TheVariants as refusal
 use Rattle.table.specs.Rows.{parameter_count, pairs_size, rows, place_of, supported, trigger_allowed, row_allows, allowed, defaults_of}
-use Rattle.table.specs.Table.{Values, Pair, read_pairs, send_length_allowed, request_length_allowed, locked_in, settable, all_settable, changed, Outcome, done, refused, set_pairs, defaults, restored, set_defaults, power_up, value_of, asked_for, numbers_of, pair_bytes, answer_data}
+use Rattle.table.specs.Table.{Values, Pair, Reading, wrong_length, pairs, read_pairs, send_length_allowed, request_length_allowed, locked_in, settable, all_settable, changed, Outcome, done, refused, set_pairs, defaults, restored, set_defaults, power_up, value_of, asked_for, numbers_of, pair_bytes, answer_data}
 use Rattle.table.specs.declared.Table.{Table}
 use Rattle.table.specs.declared.Setting.{Setting}
 
@@ -82,6 +82,11 @@ pub record Takes (s : Setting) (value : ℕ) (r : Bool) : Type 0 where
 
 pub record TriggerAllowed (value : ℕ) (r : Bool) : Type 0 where
   pub is : r ≡ trigger_allowed value
+
+-- The pairs of an even number of bytes.
+unfoldable pub pairs_of : Reading → List Pair
+pairs_of wrong_length = []
+pairs_of (pairs ps) = ps
 
 -- Pairs as two bytes each.
 abbrev pub pair_of : List ℕ → Pair
