@@ -28,14 +28,15 @@ use Rattle.hub.proofs.Outcomes.{Outcome, nothing, plain, bars, again, more, whol
 use Rattle.listing.specs.Lines.{answer_line}
 use Rattle.listing.specs.Listing.{skips, goes}
 use Rattle.listing.specs.Promises.{Takes}
-use Rattle.listing.specs.declared.Digit.TheVariants.{No}
+use Rattle.std.proofs.Common.{None, ◌⊎◌, inl, inr}
 use Rattle.listing.specs.declared.Token.TheVariants.{Nothing, Byte, CharacterGap, MessageGap, Sign, Lone}
 use Rattle.listing.specs.declared.Taken.{Taken}
 use Rattle.listing.proofs.Rooms.{most_over, writes_nothing}
 use Rattle.hub_lister.specs.declared.Lister.{Lister}
-use Rattle.hub_lister.specs.declared.Step.{Step}
+use Rattle.hub_lister.specs.declared.Buffers.{Buffers}
+use Rattle.hub_lister.specs.declared.Page.{Page}
 use Rattle.hub_lister.specs.Listing.{output_line, happens, acts}
-use Rattle.hub_lister.specs.Promises.{count_of, told_line, Skips, Stops, Happens, Characters, PutsLines}
+use Rattle.hub_lister.specs.Promises.{SameBuffers, count_of, told_line, Stops, Happens, Characters, PutsLines}
 
 -- ---- rooms
 
@@ -110,42 +111,38 @@ module _ {hub : Hub} {line gather answer part : List ℕ} {e : Event} {a : HubTa
   few_answer = rw (heard_count, heard_answer) (most_over (answer_of (hub_step (state_of hub line gather) e).told) answer)
 
   -- The message stands in m from its second byte on.
-  pub happened : (rest : List ℕ) {m room room' : List ℕ} {at place : ℕ} → drop 1 m ≡ part' ++ rest → PutsLines a.told a.answer answer' m room at place room' →
-      Happens hub line gather e room at (record { lister = record { hub = a.hub; waiting = No; ended = false }; place = place }) line' gather' room'
+  pub happened : (rest : List ℕ) {m : List ℕ} {b b' : Buffers} {p p' : Page} → b.line.now ≡ line → b.gather.now ≡ gather → b'.line.now ≡ line' → b'.gather.now ≡ gather' → drop 1 m ≡ part' ++ rest →
+      PutsLines a.told a.answer answer' m p p' → SameBuffers b b' → Happens hub b e p (record { hub = a.hub; waiting = None; ended = false }) b' p'
   unfolding happens goes hub_step framed
-  happened rest {m} d k =
-      let s : HubState = state_of hub line gather in
-      let os : List Output = (hub_step s e).told in
+  happened rest {m} l g l' g' d k s =
+      let state : HubState = state_of hub line gather in
+      let os : List Output = (hub_step state e).told in
       let answer_is : take a.answer answer' ≡ answer_of os = rw heard_answer (take_over (answer_of os) answer a.answer heard_count) in
       let lines : told_line a.told m ++ answer_line (take a.answer answer') ≡ flat_map output_line os =
-      rw (heard_told, answer_is) (lines_told part rest m (event_happens s e).outcome (d ∙ rw heard_message refl)) in
-      record { steps = record { next = rw heard_next refl; writes = rw lines at k.writes } }
+      rw (heard_told, answer_is) (lines_told part rest m (event_happens state e).outcome (d ∙ rw heard_message refl)) in
+      record { steps = rw (l, g, l', g') (record { next = rw heard_next refl; writes = rw lines at k.writes }); buffers = s; page = k.page }
 
 -- ---- a character, by its token
 
-module _ {l : Lister} {line gather : List ℕ} {c : ℕ} {t : Taken} (k : Takes l.waiting c t) {room : List ℕ} {at : ℕ} where
-  pub skipped : {r : Step} → at ≤ length room → t.token ≡ Nothing → Skips l.hub t at r → Characters l line gather c room at r line gather room
+module _ {l : Lister} {c : ℕ} {t : Taken} (k : Takes l.waiting c t) {b : Buffers} {p : Page} where
+  pub skipped : p.at ≤ length p.room.now → t.token ≡ Nothing → Characters l b c p (record { hub = l.hub; waiting = t.waiting; ended = false }) b p
   unfolding acts skips
-  skipped h e s = record { steps = rw (← k.is, e, s.is) (record { next = refl; writes = writes_nothing h }) }
+  skipped h e = record { steps = rw (← k.is, e) (record { next = refl; writes = writes_nothing h }); buffers = record { line = refl; gather = refl }; page = record { room = refl } }
 
-  module _ {r : Step} {line' gather' room' : List ℕ} where
-    pub byte_heard : {b : ℕ} → t.token ≡ Byte b → Happens l.hub line gather (event.Byte b) room at r line' gather' room' → Characters l line gather c room at r line' gather' room'
+  module _ {r : Lister} {b' : Buffers} {p' : Page} where
+    pub byte_heard : {x : ℕ} → t.token ≡ Byte x → Happens l.hub b (event.Byte x) p r b' p' → Characters l b c p r b' p'
     unfolding acts
-    byte_heard e s = record { steps = rw (← k.is, e) s.steps }
+    byte_heard e s = record { steps = rw (← k.is, e) s.steps; buffers = s.buffers; page = s.page }
 
-    pub gap_heard : t.token ≡ CharacterGap → Happens l.hub line gather event.CharacterGap room at r line' gather' room' → Characters l line gather c room at r line' gather' room'
+    pub gap_heard : t.token ≡ CharacterGap → Happens l.hub b event.CharacterGap p r b' p' → Characters l b c p r b' p'
     unfolding acts
-    gap_heard e s = record { steps = rw (← k.is, e) s.steps }
+    gap_heard e s = record { steps = rw (← k.is, e) s.steps; buffers = s.buffers; page = s.page }
 
-    pub message_gap_heard : t.token ≡ MessageGap → Happens l.hub line gather event.MessageGap room at r line' gather' room' → Characters l line gather c room at r line' gather' room'
+    pub message_gap_heard : t.token ≡ MessageGap → Happens l.hub b event.MessageGap p r b' p' → Characters l b c p r b' p'
     unfolding acts
-    message_gap_heard e s = record { steps = rw (← k.is, e) s.steps }
+    message_gap_heard e s = record { steps = rw (← k.is, e) s.steps; buffers = s.buffers; page = s.page }
 
-  module _ {r : Step} {room' : List ℕ} where
-    pub sign_read : {x : ℕ} → t.token ≡ Sign x → Stops l.hub room at r room' → Characters l line gather c room at r line gather room'
-    unfolding acts
-    sign_read e s = record { steps = rw (← k.is, e) (s.steps line gather) }
-
-    pub lone_read : t.token ≡ Lone → Stops l.hub room at r room' → Characters l line gather c room at r line gather room'
-    unfolding acts
-    lone_read e s = record { steps = rw (← k.is, e) (s.steps line gather) }
+  pub stop_read : {r : Lister} {p' : Page} → ((x : ℕ) × (t.token ≡ Sign x)) ⊎ (t.token ≡ Lone) → Stops l.hub p r p' → Characters l b c p r b p'
+  unfolding acts
+  stop_read (inl (x, e)) s = record { steps = rw (← k.is, e) (s.steps b.line.now b.gather.now); buffers = record { line = refl; gather = refl }; page = s.page }
+  stop_read (inr e) s = record { steps = rw (← k.is, e) (s.steps b.line.now b.gather.now); buffers = record { line = refl; gather = refl }; page = s.page }

@@ -23,7 +23,8 @@ use Rattle.listing.proofs.Sessions as session
 use Rattle.hub_lister.specs.declared.Lister.{Lister}
 use Rattle.hub_lister.specs.declared.Listed.{Listed}
 use Rattle.hub_lister.specs.Listing.{acts, happens, listing_of, output_line}
-use Rattle.hub_lister.specs.Promises.{lines_size, Starts, Listens, Finishes, Ran}
+use Rattle.hub_lister.specs.Promises.{reading_of, lines_size, Starts, Listens, Finishes, Ran}
+use Rattle.listing.specs.Session.{Hears}
 
 -- ---- §16's example, by computation
 
@@ -73,3 +74,9 @@ session_ends k h f = session.session_ends k.ran.session h f.finishes
 pub session_ended : {l : Lister} {line gather : List ℕ} (k : Ran l line gather) → l.ended ≡ true → (rest : List ℕ) → k.ran.written ≡ listing_of (k.ran.taken ++ rest)
 unfolding listing_of
 session_ended k e rest = session.session_ended k.ran.session e rest
+
+-- What a call promises of its buffers and its room, where they are known by other names.
+pub listens : {l : Lister} {line gather text room : List ℕ} {r : Listed} {line₁ gather₁ room₁ line₂ gather₂ room₂ : List ℕ} →
+    line₁ ≡ line₂ → gather₁ ≡ gather₂ → room₁ ≡ room₂ → Hears acts lines_size (reading_of l line gather) text room r.taken r.count (reading_of r.lister line₁ gather₁) room₁ →
+    Listens l line gather text room r line₂ gather₂ room₂
+listens a b c h = rw (← a, ← b, ← c) (record { hears = h })

@@ -1,5 +1,5 @@
 -- §16, the hub listing: what it does with each token, and the lines that it prints.
-use Rattle.std.specs.Prelude.{ℕ}
+use Rattle.std.specs.Prelude.{ℕ, Option}
 use mathlib.Core.List.{List, [], ◌∷◌, flat_map}
 use Rattle.words.specs.Machine.{Done}
 use Rattle.framer.specs.declared.Event.{Event}
@@ -9,7 +9,6 @@ use Rattle.hub.specs.Hub.{HubState, switched_on, hub_step}
 use Rattle.listing.specs.Lines.{line_of, answer_line}
 use Rattle.listing.specs.Listing.{Reading, skips, goes, stops}
 use Rattle.listing.specs.Listing as listing
-use Rattle.listing.specs.declared.Digit.{Digit}
 use Rattle.listing.specs.declared.Token.{Token}
 use Rattle.listing.specs.declared.Token.TheVariants.{Nothing, Byte, CharacterGap, MessageGap, Sign, Lone}
 
@@ -25,7 +24,7 @@ output_line (answered bytes) = answer_line bytes
 unfoldable pub happens : HubState → Event → Done (Reading HubState) ℕ
 happens hub e = goes (hub_step hub e).next (flat_map output_line (hub_step hub e).told)
 
-unfoldable pub acts : HubState → Digit → Token → Done (Reading HubState) ℕ
+unfoldable pub acts : HubState → Option ℕ → Token → Done (Reading HubState) ℕ
 acts hub waiting Nothing = skips hub waiting
 acts hub waiting (Byte b) = happens hub (event.Byte b)
 acts hub waiting CharacterGap = happens hub event.CharacterGap

@@ -1,5 +1,5 @@
 -- What the calls of the hub listing promise: how many characters are taken, the state, and every byte of the room for lines.
-use Rattle.std.specs.Prelude.{ℕ, ◌+◌, ◌*◌, false, List, [], ◌∷◌, ◌++◌, ◌≡◌, take, drop}
+use Rattle.std.specs.Prelude.{ℕ, ◌+◌, ◌*◌, false, None, List, [], ◌∷◌, ◌++◌, ◌≡◌, take, drop}
 use Rattle.packet.specs.Sizes.{message_size}
 use Rattle.framer.specs.declared.Event.{Event}
 use Rattle.hub.specs.Hub.{HubState, switched_on}
@@ -13,12 +13,11 @@ use Rattle.listing.specs.Session as session
 use Rattle.listing.specs.Tokens.{take_of}
 use Rattle.listing.specs.Promises as listing
 use Rattle.listing.specs.Promises.{Writes, Steps}
-use Rattle.listing.specs.declared.Digit.TheVariants.{No}
-use Rattle.listing.specs.declared.Taken.{Taken}
 use Rattle.hub_lister.specs.Listing.{happens, acts}
 use Rattle.hub_lister.specs.declared.Lister.{Lister}
 use Rattle.hub_lister.specs.declared.Listed.{Listed}
-use Rattle.hub_lister.specs.declared.Step.{Step}
+use Rattle.hub_lister.specs.declared.Buffers.{Buffers}
+use Rattle.hub_lister.specs.declared.Page.{Page}
 
 -- What a control value and the hub's two buffers stand for.
 abbrev pub reading_of : Lister → List ℕ → List ℕ → Reading HubState
@@ -39,7 +38,7 @@ abbrev pub lines_size : ℕ
 lines_size = message_line_size + answer_line_size
 
 pub record Starts (r : Lister) : Type 0 where
-  pub is : r ≡ record { hub = on_control; waiting = No; ended = false }
+  pub is : r ≡ record { hub = on_control; waiting = None; ended = false }
 
 pub record Listens (l : Lister) (line gather text room : List ℕ) (r : Listed) (line' gather' room' : List ℕ) : Type 0 where
   pub hears : session.Hears acts lines_size (reading_of l line gather) text room r.taken r.count (reading_of r.lister line' gather') room'
@@ -51,20 +50,36 @@ pub record Finishes (l : Lister) (room : List ℕ) (r : ℕ) (room' : List ℕ) 
 pub record Ran (l : Lister) (line gather : List ℕ) : Type 0 where
   pub ran : session.Ran acts lines_size switched_on (reading_of l line gather)
 
+-- The same where the buffers are gone: with some buffers.
+pub record Left (l : Lister) : Type 0 where
+  pub line : List ℕ
+  pub gather : List ℕ
+  pub ran : Ran l line gather
+
 -- ---- the functions inside
 
-pub record Characters (l : Lister) (line gather : List ℕ) (c : ℕ) (room : List ℕ) (at : ℕ) (r : Step) (line' gather' room' : List ℕ) : Type 0 where
-  pub steps : Steps (acts (state_of l.hub line gather) (take_of l.waiting c).waiting (take_of l.waiting c).token) room at (reading_of r.lister line' gather') r.place room'
+-- Behind the references of a struct lie the same rooms as before.
+pub record SameBuffers (b b' : Buffers) : Type 0 where
+  pub line : b'.line.ghost_name ≡ b.line.ghost_name
+  pub gather : b'.gather.ghost_name ≡ b.gather.ghost_name
 
-pub record Happens (hub : Hub) (line gather : List ℕ) (e : Event) (room : List ℕ) (at : ℕ) (r : Step) (line' gather' room' : List ℕ) : Type 0 where
-  pub steps : Steps (happens (state_of hub line gather) e) room at (reading_of r.lister line' gather') r.place room'
+pub record SamePage (p p' : Page) : Type 0 where
+  pub room : p'.room.ghost_name ≡ p.room.ghost_name
 
--- Nothing of the two buffers is looked at.
-pub record Skips (hub : Hub) (t : Taken) (at : ℕ) (r : Step) : Type 0 where
-  pub is : r ≡ record { lister = record { hub = hub; waiting = t.waiting; ended = false }; place = at }
+pub record Characters (l : Lister) (b : Buffers) (c : ℕ) (p : Page) (r : Lister) (b' : Buffers) (p' : Page) : Type 0 where
+  pub steps : Steps (acts (state_of l.hub b.line.now b.gather.now) (take_of l.waiting c).waiting (take_of l.waiting c).token) p.room.now p.at (reading_of r b'.line.now b'.gather.now) p'.at p'.room.now
+  pub buffers : SameBuffers b b'
+  pub page : SamePage p p'
 
-pub record Stops (hub : Hub) (room : List ℕ) (at : ℕ) (r : Step) (room' : List ℕ) : Type 0 where
-  pub steps : (line gather : List ℕ) → Steps (stops (state_of hub line gather)) room at (reading_of r.lister line gather) r.place room'
+pub record Happens (hub : Hub) (b : Buffers) (e : Event) (p : Page) (r : Lister) (b' : Buffers) (p' : Page) : Type 0 where
+  pub steps : Steps (happens (state_of hub b.line.now b.gather.now) e) p.room.now p.at (reading_of r b'.line.now b'.gather.now) p'.at p'.room.now
+  pub buffers : SameBuffers b b'
+  pub page : SamePage p p'
+
+-- Nothing of the hub's buffers is looked at.
+pub record Stops (hub : Hub) (p : Page) (r : Lister) (p' : Page) : Type 0 where
+  pub steps : (line gather : List ℕ) → Steps (stops (state_of hub line gather)) p.room.now p.at (reading_of r line gather) p'.at p'.room.now
+  pub page : SamePage p p'
 
 -- How many bytes a message that is told has.
 abbrev pub count_of : Told → ℕ
@@ -74,10 +89,7 @@ count_of told.Repeated = 0
 count_of (told.Message code count) = count
 count_of (told.Refused r) = 0
 
--- The message stands in its room from the second byte on.
-pub record PutsMessage (code count : ℕ) (message room : List ℕ) (at r : ℕ) (room' : List ℕ) : Type 0 where
-  pub writes : Writes (line_of 77 (code ∷ take count (drop 1 message))) at room r room'
-
+-- The line of a message, which stands in its room from the second byte on.
 unfoldable pub told_line : Told → List ℕ → List ℕ
 told_line told.Nothing message = []
 told_line told.Added message = []
@@ -85,8 +97,10 @@ told_line told.Repeated message = []
 told_line (told.Message code count) message = line_of 77 (code ∷ take count (drop 1 message))
 told_line (told.Refused r) message = []
 
-pub record MessageLine (t : Told) (message room : List ℕ) (at r : ℕ) (room' : List ℕ) : Type 0 where
-  pub writes : Writes (told_line t message) at room r room'
+pub record MessageLine (t : Told) (message : List ℕ) (p p' : Page) : Type 0 where
+  pub writes : Writes (told_line t message) p.at p.room.now p'.at p'.room.now
+  pub page : SamePage p p'
 
-pub record PutsLines (t : Told) (count : ℕ) (answer message room : List ℕ) (at r : ℕ) (room' : List ℕ) : Type 0 where
-  pub writes : Writes (told_line t message ++ answer_line (take count answer)) at room r room'
+pub record PutsLines (t : Told) (count : ℕ) (answer message : List ℕ) (p p' : Page) : Type 0 where
+  pub writes : Writes (told_line t message ++ answer_line (take count answer)) p.at p.room.now p'.at p'.room.now
+  pub page : SamePage p p'

@@ -4,17 +4,17 @@
 
 mod stream;
 
-ghost use Rattle.std.specs.Prelude.{◌+◌, ◌≤◌, ◌≡◌, length};
+ghost use Rattle.std.specs.Prelude.{◌+◌, ◌≤◌, length};
 ghost use Rattle.packet.specs.Sizes.{message_size};
 ghost use Rattle.hub.specs.Promises.{hub_answer_size};
-ghost use Rattle.hub_lister.specs.Promises.{coded_size, message_line_size, lines_size, Starts, Listens, Finishes, Characters, Skips, Stops, Happens, PutsLines, MessageLine, PutsMessage, count_of};
+ghost use Rattle.hub_lister.specs.Promises.{message_line_size, lines_size, Starts, Listens, Finishes, Characters, Stops, Happens, PutsLines, MessageLine, count_of};
 
 use framer::Event;
 pub use framer::LINE_SIZE;
 use hub::{HUB_ANSWER_SIZE, Hub, Told};
-use listing::{Digit, Taken, Token};
+use listing::Token;
 pub use packet::MESSAGE_SIZE;
-pub use stream::run;
+pub use stream::{run, run_on_streams};
 
 // A message with its code type in front of it.
 const CODED_SIZE: usize = MESSAGE_SIZE + 1;
@@ -25,7 +25,7 @@ pub const LINES_SIZE: usize = (3 * CODED_SIZE + 2) + (3 * HUB_ANSWER_SIZE + 2);
 #[derive(Clone, Copy)]
 pub struct Lister {
     pub hub: Hub,
-    pub waiting: Digit,
+    pub waiting: Option<u8>,
     pub ended: bool,
 }
 
@@ -37,10 +37,20 @@ pub struct Listed {
     pub count: usize,
 }
 
-#[derive(Clone, Copy)]
-struct Step {
-    lister: Lister,
-    place: usize,
+// What the hub works on: the two buffers that it keeps, and room for what one event brings. The message has its code type in front.
+#[derive(Drop)]
+struct Buffers<'a> {
+    line: &'a mut [u8; LINE_SIZE],
+    gather: &'a mut [u8; MESSAGE_SIZE],
+    answer: [u8; HUB_ANSWER_SIZE],
+    message: [u8; CODED_SIZE],
+}
+
+// The room for lines, and the place behind those that stand in it.
+#[derive(Drop)]
+struct Page<'a> {
+    room: &'a mut [u8],
+    at: usize,
 }
 
 pub fn start() -> Lister
@@ -48,7 +58,7 @@ pub fn start() -> Lister
 {
     Lister {
         hub: hub::switched_on(),
-        waiting: Digit::No,
+        waiting: None,
         ended: false,
     }
 }
@@ -63,148 +73,97 @@ pub fn hear(
 ) -> Listed
     ensures { Listens lister line.old gather.old text.now room.old result line.new gather.new room.new }
 {
-    let mut answer = [0u8; HUB_ANSWER_SIZE];
-    let mut message = [0u8; CODED_SIZE];
-    hear_all(lister, line, gather, &mut answer, &mut message, text, room)
+    let mut buffers = Buffers {
+        line,
+        gather,
+        answer: [0; HUB_ANSWER_SIZE],
+        message: [0; CODED_SIZE],
+    };
+    let mut page = Page { room, at: 0 };
+    let mut present = lister;
+    for (taken, next) in text.iter().enumerate() {
+        if !listing::goes_on(present.ended, LINES_SIZE, page.room.len() - page.at) {
+            return Listed {
+                lister: present,
+                taken,
+                count: page.at,
+            };
+        }
+        present = character(present, &mut buffers, *next, &mut page);
+    }
+    Listed {
+        lister: present,
+        taken: text.len(),
+        count: page.at,
+    }
 }
 
 // The end of the input. A digit that still waits stands alone.
 pub fn finish(lister: Lister, room: &mut [u8]) -> usize
     ensures { Finishes lister room.old result room.new }
 {
-    let waiting = lister.waiting;
-    listing::put_last(lister.ended, waiting, room)
+    listing::put_last(lister.ended, lister.waiting, room)
 }
 
-fn hear_all(
-    lister: Lister,
-    line: &mut [u8; LINE_SIZE],
-    gather: &mut [u8; MESSAGE_SIZE],
-    answer: &mut [u8],
-    message: &mut [u8],
-    text: &[u8],
-    room: &mut [u8],
-) -> Listed
-    requires { (length answer.old ≡ hub_answer_size) × (length message.old ≡ coded_size) }
-    ensures { Listens lister line.old gather.old text.now room.old result line.new gather.new room.new }
-{
-    let mut present = lister;
-    let mut i = 0;
-    let mut at = 0;
-    while i < text.len() && listing::goes_on(present.ended, LINES_SIZE, room.len() - at) {
-        let step = character(present, line, gather, answer, message, text[i], room, at);
-        present = step.lister;
-        at = step.place;
-        i += 1;
-    }
-    Listed {
-        lister: present,
-        taken: i,
-        count: at,
-    }
-}
-
-// One character, and the lines due for it.
-fn character(
-    lister: Lister,
-    line: &mut [u8; LINE_SIZE],
-    gather: &mut [u8; MESSAGE_SIZE],
-    answer: &mut [u8],
-    message: &mut [u8],
-    character: u8,
-    room: &mut [u8],
-    at: usize,
-) -> Step
-    requires { (length answer.old ≡ hub_answer_size) × (length message.old ≡ coded_size) × (at + lines_size ≤ length room.old) }
-    ensures { Characters lister line.old gather.old character room.old at result line.new gather.new room.new }
+// One character, and the lines due for it. What is wrong ends the listing.
+fn character(lister: Lister, buffers: &mut Buffers, character: u8, page: &mut Page) -> Lister
+    requires { page.old.at + lines_size ≤ length page.old.room.now }
+    ensures { Characters lister buffers.old character page.old result buffers.new page.new }
 {
     let hub = lister.hub;
-    let waiting = lister.waiting;
-    let taken = listing::take(waiting, character);
-    let token = taken.token;
-    match token {
-        Token::Nothing => skip(hub, taken, at),
-        Token::Byte(b) => happen(hub, line, gather, answer, message, Event::Byte(b), room, at),
-        Token::CharacterGap => happen(
-            hub,
-            line,
-            gather,
-            answer,
-            message,
-            Event::CharacterGap,
-            room,
-            at,
-        ),
-        Token::MessageGap => happen(
-            hub,
-            line,
-            gather,
-            answer,
-            message,
-            Event::MessageGap,
-            room,
-            at,
-        ),
-        Token::Sign(_) => stop(hub, room, at),
-        Token::Lone => stop(hub, room, at),
+    let taken = listing::take(lister.waiting, character);
+    let event = match taken.token {
+        Token::Nothing => {
+            return Lister {
+                hub,
+                waiting: taken.waiting,
+                ended: false,
+            };
+        }
+        Token::Sign(_) | Token::Lone => return stop(hub, page),
+        Token::Byte(b) => Event::Byte(b),
+        Token::CharacterGap => Event::CharacterGap,
+        Token::MessageGap => Event::MessageGap,
+    };
+    happen(hub, buffers, event, page)
+}
+
+fn stop(hub: Hub, page: &mut Page) -> Lister
+    requires { page.old.at + lines_size ≤ length page.old.room.now }
+    ensures { Stops hub page.old result page.new }
+{
+    page.at = listing::put_error(page.room, page.at);
+    Lister {
+        hub,
+        waiting: None,
+        ended: true,
     }
 }
 
-// No token yet, or none at all.
-fn skip(hub: Hub, taken: Taken, at: usize) -> Step
-    ensures { Skips hub taken at result }
+// An event, and its lines.
+fn happen(hub: Hub, buffers: &mut Buffers, event: Event, page: &mut Page) -> Lister
+    requires { page.old.at + lines_size ≤ length page.old.room.now }
+    ensures { Happens hub buffers.old event page.old result buffers.new page.new }
 {
-    let waiting = taken.waiting;
-    Step {
-        lister: Lister {
-            hub,
-            waiting,
-            ended: false,
-        },
-        place: at,
-    }
-}
-
-// What is wrong ends the listing.
-fn stop(hub: Hub, room: &mut [u8], at: usize) -> Step
-    requires { at + lines_size ≤ length room.old }
-    ensures { Stops hub room.old at result room.new }
-{
-    Step {
-        lister: Lister {
-            hub,
-            waiting: Digit::No,
-            ended: true,
-        },
-        place: listing::put_error(room, at),
-    }
-}
-
-// An event, and its lines. The message room starts behind a place for the code type.
-fn happen(
-    hub: Hub,
-    line: &mut [u8; LINE_SIZE],
-    gather: &mut [u8; MESSAGE_SIZE],
-    answer: &mut [u8],
-    message: &mut [u8],
-    event: Event,
-    room: &mut [u8],
-    at: usize,
-) -> Step
-    requires { (length answer.old ≡ hub_answer_size) × (length message.old ≡ coded_size) × (at + lines_size ≤ length room.old) }
-    ensures { Happens hub line.old gather.old event room.old at result line.new gather.new room.new }
-{
-    let taken = hub::hear(hub, line, gather, answer, &mut message[1..], event);
-    let told = taken.told;
-    let place = put_lines(told, taken.answer, answer, message, room, at);
-    let next = taken.hub;
-    Step {
-        lister: Lister {
-            hub: next,
-            waiting: Digit::No,
-            ended: false,
-        },
-        place,
+    let taken = hub::hear(
+        hub,
+        buffers.line,
+        buffers.gather,
+        &mut buffers.answer,
+        &mut buffers.message[1..],
+        event,
+    );
+    put_lines(
+        taken.told,
+        taken.answer,
+        &buffers.answer,
+        &mut buffers.message,
+        page,
+    );
+    Lister {
+        hub: taken.hub,
+        waiting: None,
+        ended: false,
     }
 }
 
@@ -212,37 +171,24 @@ fn happen(
 fn put_lines(
     told: Told,
     count: usize,
-    answer: &[u8],
-    message: &mut [u8],
-    room: &mut [u8],
-    at: usize,
-) -> usize
-    requires { (length answer.now ≡ hub_answer_size) × (count ≤ hub_answer_size) × (length message.old ≡ coded_size) × (count_of told ≤ message_size) × (at + lines_size ≤ length room.old) }
-    ensures { PutsLines told count answer.now message.old room.old at result room.new }
+    answer: &[u8; HUB_ANSWER_SIZE],
+    message: &mut [u8; CODED_SIZE],
+    page: &mut Page,
+)
+    requires { (count ≤ hub_answer_size) × (count_of told ≤ message_size) × (page.old.at + lines_size ≤ length page.old.room.now) }
+    ensures { PutsLines told count answer.now message.old page.old page.new }
 {
-    let behind = message_line(told, message, room, at);
-    listing::put_answer(&answer[..count], room, behind)
-}
-
-fn message_line(told: Told, message: &mut [u8], room: &mut [u8], at: usize) -> usize
-    requires { (length message.old ≡ coded_size) × (count_of told ≤ message_size) × (at + message_line_size ≤ length room.old) }
-    ensures { MessageLine told message.old room.old at result room.new }
-{
-    match told {
-        Told::Nothing => at,
-        Told::Added => at,
-        Told::Repeated => at,
-        Told::Message { code, count } => put_message(code, count, message, room, at),
-        Told::Refused(_) => at,
-    }
+    message_line(told, message, page);
+    page.at = listing::put_answer(&answer[..count], page.room, page.at);
 }
 
 // The code type goes in front of the message, so that both are one run of bytes.
-fn put_message(code: u8, count: usize, message: &mut [u8], room: &mut [u8], at: usize) -> usize
-    requires { (length message.old ≡ coded_size) × (count ≤ message_size) × (at + message_line_size ≤ length room.old) }
-    ensures { PutsMessage code count message.old room.old at result room.new }
+fn message_line(told: Told, message: &mut [u8; CODED_SIZE], page: &mut Page)
+    requires { (count_of told ≤ message_size) × (page.old.at + message_line_size ≤ length page.old.room.now) }
+    ensures { MessageLine told message.old page.old page.new }
 {
-    message[0] = code;
-    let end = count + 1;
-    listing::put_line(b'M', &message[..end], room, at)
+    if let Told::Message { code, count } = told {
+        message[0] = code;
+        page.at = listing::put_line(b'M', &message[..=count], page.room, page.at);
+    }
 }

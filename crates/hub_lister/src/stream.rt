@@ -1,12 +1,12 @@
 // The hub listing from a reader to a writer. It streams: the lines due for what has been read are written out before the next read.
 // No contract can say what standard input gives or standard output takes, so those here say that a listing goes on from where it stood.
 ghost use Rattle.std.specs.Prelude.{◌≤◌, length};
-ghost use Rattle.hub_lister.specs.Promises.{lines_size, Ran};
+ghost use Rattle.hub_lister.specs.Promises.{lines_size, Ran, Left};
 
 use crate::{LINES_SIZE, Lister, finish, hear, start};
 use framer::LINE_SIZE;
 use packet::MESSAGE_SIZE;
-use std::io::{Read, Write};
+use std::io::{self, Input, Print, Read, Write};
 
 // Reads as much at a time as the text buffer holds, to the end of the input or to what is wrong. A room under LINES_SIZE is too small
 // for the lines of one character, and nothing is read then.
@@ -20,27 +20,12 @@ pub fn run<R: Read, W: Write>(
 ) -> Lister
     ensures { Ran result line.new gather.new }
 {
-    if room.len() < LINES_SIZE {
-        return start();
-    }
-    listen(reader, writer, line, gather, text, room)
-}
-
-// A proved loop has to end, and nothing says that the input does. So it counts its reads down, from a number that no run uses up.
-fn listen<R: Read, W: Write>(
-    reader: &mut R,
-    writer: &mut W,
-    line: &mut [u8; LINE_SIZE],
-    gather: &mut [u8; MESSAGE_SIZE],
-    text: &mut [u8],
-    room: &mut [u8],
-) -> Lister
-    requires { lines_size ≤ length room.old }
-    ensures { Ran result line.new gather.new }
-{
     let mut lister = start();
-    let mut reads = u64::MAX;
-    while reads > 0 {
+    if room.len() < LINES_SIZE {
+        return lister;
+    }
+    // A proved loop has to end, and nothing says that the input does: so it stops after more reads than a run can make.
+    for _ in 0..u64::MAX {
         let count = read(reader, text);
         if count == 0 {
             end(writer, lister, room);
@@ -50,12 +35,28 @@ fn listen<R: Read, W: Write>(
         if lister.ended {
             return lister;
         }
-        reads -= 1;
     }
     lister
 }
 
+// The same from standard input to standard output, with the hub's two buffers of its own.
+pub fn run_on_streams(rt: &(impl Input + Print), text: &mut [u8], room: &mut [u8]) -> Lister
+    ensures { Left result }
+{
+    let mut line = [0; LINE_SIZE];
+    let mut gather = [0; MESSAGE_SIZE];
+    run(
+        &mut rt.reader(),
+        &mut io::writer(rt),
+        &mut line,
+        &mut gather,
+        text,
+        room,
+    )
+}
+
 // The lines due for a text. The room may be full before the text ends.
+// stays: line and gather are handed on one by one, as the public calls take them, whose parameters may not change.
 fn tell<W: Write>(
     writer: &mut W,
     lister: Lister,
@@ -68,14 +69,11 @@ fn tell<W: Write>(
     ensures { Ran result line.new gather.new }
 {
     let mut present = lister;
-    let mut from = 0;
-    while from < text.len() {
-        if present.ended {
-            return present;
-        }
-        let listed = hear(present, line, gather, &text[from..], room);
+    let mut rest = text;
+    while !present.ended && !rest.is_empty() {
+        let listed = hear(present, line, gather, rest, room);
         write(writer, room, listed.count);
-        from += listed.taken;
+        rest = &rest[listed.taken..];
         present = listed.lister;
     }
     present
@@ -90,10 +88,7 @@ fn end<W: Write>(writer: &mut W, lister: Lister, room: &mut [u8]) {
 fn read<R: Read>(reader: &mut R, text: &mut [u8]) -> usize
     ensures { result ≤ length text.new }
 {
-    match reader.read(text) {
-        Ok(count) => count,
-        Err(_) => 0,
-    }
+    reader.read(text).unwrap_or(0)
 }
 
 // Where a write fails nobody is left to be told.

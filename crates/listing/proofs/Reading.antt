@@ -116,13 +116,13 @@ module _ {S : Type 0} {acts : Acts S} {most : ℕ} {s₀ : Reading S} {text room
       }
 
   -- The text has ended.
-  pub listing_all : length text ≤ i → Hears acts most s₀ text room₀ i at s room
+  pub listing_all : length text ≤ i → Hears acts most s₀ text room₀ (length text) at s room
   unfolding taken_of
   listing_all h =
       let e : i ≡ length text = le_antisymm k.passed h in
       let none : drop i text ≡ [] = rw e (drop-length text) in
       let n : taken_of acts most s (length room₀ - at) (drop i text) ≡ 0 = rw none refl in
-      listened (omega (arith, k.still, n))
+      rw (← e) (listened (omega (arith, k.still, n)))
 
   -- The listing has ended, or the room might not do.
   pub listing_left : {b : Bool} → i < length text → GoesOn s.ended most (length room - at) b → b ≡ false → Hears acts most s₀ text room₀ i at s room
