@@ -8,7 +8,7 @@ use lib.Dec.{eqb, ltb}
 use lib.ListN.{length, get_or, take, drop, length-take, length-drop}
 use lib.Seq.{length-take-le}
 use borrow.Author.Tests.{le-leb, lt-leb, le-ltb}
-use Rattle.words.specs.Lists.{pick, over, Copied}
+use Rattle.words.specs.Lists.{pick, over, over_at, Copied}
 use Rattle.words.specs.Machine.{Done, given}
 use Rattle.words.proofs.Lists.{over_nil, over_take, take_over, part_over, copied_over, never}
 use Rattle.packet.specs.Opcodes.{host, reader, param_send}
@@ -25,6 +25,7 @@ use Rattle.framer.specs.declared.Halves.{Halves}
 use Rattle.sender.specs.Sender.{Sent, sender_step}
 use Rattle.sender.specs.Promises as sending
 use Rattle.sender.specs.declared.Heard.{Heard}
+use Rattle.sender.specs.declared.Sender.{Sender}
 use Rattle.sender.specs.declared.Sending.{Sending}
 use Rattle.table.specs.Rows.{pairs_size}
 use Rattle.table.specs.Table.{answer_data}
@@ -47,14 +48,18 @@ use Rattle.reader.specs.declared.Taken.{Taken}
 
 -- ---- the control value
 
-module _ {reader : Reader} {answers : List ℕ} (l : length answers ≡ reader_answer_size) where
-  pub core_kept : reader.last_answer ≤ length answers → SoundCore reader answers (record { last_answer = reader.last_answer; device = reader.device; sender = reader.sender })
+module _ {reader : Reader} where
+  pub core_kept : reader.last_answer ≤ reader_answer_size → SoundCore reader (record { last_answer = reader.last_answer; device = reader.device; sender = reader.sender })
   unfolding last_answer_of
-  core_kept h = record { is = simp (le-leb reader.last_answer reader_answer_size (omega arith)); long = l; few = h }
+  core_kept h = record { is = simp (le-leb reader.last_answer reader_answer_size h); few = h }
 
-  pub core_none : length answers < reader.last_answer → SoundCore reader answers (record { last_answer = 0; device = reader.device; sender = reader.sender })
+  pub core_none : reader_answer_size < reader.last_answer → SoundCore reader (record { last_answer = 0; device = reader.device; sender = reader.sender })
   unfolding last_answer_of
-  core_none h = record { is = simp (lt-leb reader.last_answer reader_answer_size (omega arith)); long = l; few = omega arith }
+  core_none h = record { is = simp (lt-leb reader.last_answer reader_answer_size h); few = omega arith }
+
+-- An answer that fits its buffer.
+pub kept_fits : {n : ℕ} (answers : List ℕ) → n ≤ reader_answer_size → length answers ≡ reader_answer_size → n ≤ length answers
+kept_fits answers h l = omega arith
 
 -- The control value after an event, with this line.
 abbrev placed : Halves → Stepped → Taken
@@ -87,7 +92,7 @@ unfolding seal reply_body reply_opcode reply_data body_of
 nak_few x true = omega arith
 nak_few x false = omega arith
 
-nak_most : (x : Refusal) → length (nak_bytes reader x) ≤ answer_size
+pub nak_most : (x : Refusal) → length (nak_bytes reader x) ≤ answer_size
 unfolding nak_bytes
 nak_most x = nak_few x (eqb (cause_of x) 0)
 
@@ -136,20 +141,20 @@ request_few : {t : Table} {asked room room' : List ℕ} {w : Result ℕ Refusal}
 request_few k e = answered_most k e
 
 -- The part from the fifth byte on is lent, and has room for the data.
-lent : (room : List ℕ) {t : Table} {asked part : List ℕ} {w : Result ℕ Refusal} → reader_answer_size ≤ length room → Answers t asked (take (length room - 4) (drop 4 room)) w part →
-    (w ≡ Ok (length (answer_data (values_of t) asked))) × (part ≡ over (answer_data (values_of t) asked) (take (length room - 4) (drop 4 room)))
+lent : (room : List ℕ) {t : Table} {asked part : List ℕ} {w : Result ℕ Refusal} → length room ≡ reader_answer_size → Answers t asked (take (reader_answer_size - 4) (drop 4 room)) w part →
+    (w ≡ Ok (length (answer_data (values_of t) asked))) × (part ≡ over (answer_data (values_of t) asked) (take (reader_answer_size - 4) (drop 4 room)))
 lent room h k =
-    let s = take (length room - 4) (drop 4 room) in
+    let s = take (reader_answer_size - 4) (drop 4 room) in
     let e : ltb (length s) pairs_size ≡ false = le-ltb (length s) pairs_size (simp (length-take, length-drop) (omega arith)) in
     (k.is ∙ simp e, k.room_is ∙ simp e)
 
-module _ {t : Table} {asked room room' part : List ℕ} (h : reader_answer_size ≤ length room) where
-  pub request_never : {x : Refusal} → Answers t asked (take (length room - 4) (drop 4 room)) (Err x) part → Writes (request_bytes (values_of t) asked) room 0 room'
+module _ {t : Table} {asked room room' part : List ℕ} (h : length room ≡ reader_answer_size) where
+  pub request_never : {x : Refusal} → Answers t asked (take (reader_answer_size - 4) (drop 4 room)) (Err x) part → Writes (request_bytes (values_of t) asked) room 0 room'
   request_never k = let g = (lent room h k).0 in never (cc)
 
   -- It has come back with the data at its front, and a packet is made around that.
-  pub request_filled : {n r : ℕ} {b : Result ℕ Refusal} → Answers t asked (take (length room - 4) (drop 4 room)) (Ok n) part → reader_answer_size ≤ length (take 4 room ++ (part ++ drop (length room - 4) (drop 4 room))) →
-      Fill (take 4 room ++ (part ++ drop (length room - 4) (drop 4 room))) param_send reader 0 n b room' → SizeOf b r → Writes (request_bytes (values_of t) asked) room r room'
+  pub request_filled : {n r : ℕ} {b : Result ℕ Refusal} → Answers t asked (take (reader_answer_size - 4) (drop 4 room)) (Ok n) part → reader_answer_size ≤ length (take 4 room ++ (part ++ drop (reader_answer_size - 4) (drop 4 room))) →
+      Fill (take 4 room ++ (part ++ drop (reader_answer_size - 4) (drop 4 room))) param_send reader 0 n b room' → SizeOf b r → Writes (request_bytes (values_of t) asked) room r room'
   unfolding request_bytes
   request_filled {n} {r} k wide k' z =
       let d = answer_data (values_of t) asked in
@@ -160,7 +165,7 @@ module _ {t : Table} {asked room room' part : List ℕ} (h : reader_answer_size 
       let f = fills wide m k' z in
       let i = f.0 in
       let l : length (seal b) ≡ length d + 6 = length_seal b ∙ rw (length_body param_send reader 0 d) (omega arith) in
-      let there = part_over 4 (length room - 4) d room part (omega arith) (omega arith) g.1 in
+      let there = part_over 4 (reader_answer_size - 4) d room part (omega arith) (omega arith) g.1 in
       record {
         is = omega arith;
         most = omega arith;
@@ -212,6 +217,28 @@ acts_answered l w k step =
 pub again_same : {c : Core} {answers answer answer' : List ℕ} {r : Stepped} → c.last_answer ≤ length answers → length answers ≤ length answer →
     Copied (take c.last_answer answers) answer answer' → StepOf c told.Repeated c.last_answer r → Again c answers answer r answer'
 again_same {c} {answers} h m k step = let n = length-take-le c.last_answer answers h in record { is = step.is; answer_is = copied_over (omega arith) k }
+
+-- ---- the room
+
+-- What was written into the front of a room is written into the room.
+over_front : (n : ℕ) (q room part : List ℕ) → n ≤ length room → length q ≤ n → part ≡ over q (take n room) → part ++ drop n room ≡ over q room
+unfolding over over_at
+over_front n q room part h m e = part_over 0 n q room part m (omega arith) e
+
+-- A step that writes its answer into the front of the answer room, which is as long as the longest answer, writes it into the room.
+pub widen : {d : Done CoreState Output} {s : Sender} {answers copy part answers' copy' : List ℕ} {r : Stepped} (answer : List ℕ) → reader_answer_size ≤ length answer →
+    length (answer_of d.told) ≤ reader_answer_size → Steps d s answers (take reader_answer_size answer) copy r answers' part copy' →
+    Steps d s answers answer copy r answers' (part ++ drop reader_answer_size answer) copy'
+widen {d} {part = part} answer h m k =
+    record {
+      told_is = k.told_is;
+      count_is = k.count_is;
+      outcome_is = k.outcome_is;
+      core_is = k.core_is;
+      answers_is = k.answers_is;
+      answer_is = over_front reader_answer_size (answer_of d.told) answer part h m k.answer_is;
+      copy_is = k.copy_is;
+    }
 
 -- ---- steps that leave the state
 
@@ -270,7 +297,7 @@ unfolding told_of
 told_sent [] = refl
 told_sent (x ∷ xs) = refl
 
-answer_sent : (xs : List Sent) → answer_of (map sent xs) ≡ []
+pub answer_sent : (xs : List Sent) → answer_of (map sent xs) ≡ []
 unfolding answer_of
 answer_sent [] = refl
 answer_sent (x ∷ xs) = answer_sent xs

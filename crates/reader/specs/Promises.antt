@@ -179,10 +179,14 @@ control_after reader line message e d =
       sender = sender_through reader.sender message (framer_step (line_in reader.line line) e).told;
     }
 
+-- The event is not taken.
+abbrev pub no_room_of : Reader → Taken
+no_room_of reader = record { reader = reader; told = told.Refused refusal.Room; answer = 0; outcome = outcome.Nothing }
+
 pub record Hears (reader : Reader) (line answers message answer copy : List ℕ) (e : Event) (r : Taken) (line' answers' answer' copy' : List ℕ) : Type 0 where
   pub is :
       r
-      ≡ pick (too_small answer copy) (record { reader = reader; told = told.Refused refusal.Room; answer = 0; outcome = outcome.Nothing })
+      ≡ pick (too_small answer copy) (no_room_of reader)
       (record {
         reader = control_after reader line message e (reader_step (state_of reader line answers message) e);
         told = told_of (reader_step (state_of reader line answers message) e).told;
@@ -214,9 +218,6 @@ pub record TimesOut (reader : Reader) (message copy : List ℕ) (r : Started) (c
 
 -- ---- the functions inside, each against its own level of the definition
 
-pub record NoRoom (reader : Reader) (r : Taken) : Type 0 where
-  pub is : r ≡ record { reader = reader; told = told.Refused refusal.Room; answer = 0; outcome = outcome.Nothing }
-
 -- The framer tells nothing.
 abbrev pub quiet_of : Reader → Halves → Taken
 quiet_of reader h =
@@ -230,10 +231,9 @@ quiet_of reader h =
 pub record Quiet (reader : Reader) (h : Halves) (r : Taken) : Type 0 where
   pub is : r ≡ quiet_of reader h
 
-pub record SoundCore (reader : Reader) (answers : List ℕ) (r : Core) : Type 0 where
+pub record SoundCore (reader : Reader) (r : Core) : Type 0 where
   pub is : r ≡ sound_core reader
-  pub long : length answers ≡ reader_answer_size
-  pub few : r.last_answer ≤ length answers
+  pub few : r.last_answer ≤ reader_answer_size
 
 pub record Handshake (d : Device) (r : Bool) : Type 0 where
   pub is : r ≡ handshake (device_of d)

@@ -9,7 +9,7 @@ ghost use Rattle.packet.specs.Sizes.{head_size, body_size, packet_size};
 ghost use Rattle.table.specs.Promises.{values_of};
 ghost use Rattle.reader.specs.Reader.{reader_answer_size, judged_step, known_step, no_packet_step, refuses, if_handshake, request_bytes, answer_to};
 ghost use Rattle.commands.specs.Promises.{device_of};
-ghost use Rattle.reader.specs.Promises.{SwitchedOn, PowersUp, Loads, Hears, Starts, TimesOut, NoRoom, Quiet, SoundCore, Handshake, Writes, WithTable, StepOf, SentBy, Accepts, ToSender, Leaves, Judges, Performs, Again, Acts, Settles, Receives};
+ghost use Rattle.reader.specs.Promises.{SwitchedOn, PowersUp, Loads, Hears, Starts, TimesOut, Quiet, SoundCore, Handshake, Writes, WithTable, StepOf, SentBy, Accepts, ToSender, Leaves, Judges, Performs, Again, Acts, Settles, Receives};
 
 use commands::{Acted, Beep, Command, Device, Switches};
 use framer::{Event, Found, Halves, LINE_SIZE};
@@ -21,6 +21,7 @@ use table::Table;
 pub const READER_ANSWER_SIZE: usize = packet::HEAD_SIZE + table::PAIRS_SIZE + packet::CHECKSUM_SIZE;
 
 // The reader's control value: the line with its last accepted packet, how long the answer to that one was, the device, the sender.
+// stays: the C interface keeps each of its bytes as it was, so a length stands here that no answer may have, and 0 for none.
 #[derive(Clone, Copy)]
 pub struct Reader {
     pub line: Halves,
@@ -29,7 +30,7 @@ pub struct Reader {
     pub sender: Sender,
 }
 
-// What an event brought of commands.
+// What an event brought of commands. stays: four cases, two of them with a value of their own, are no Option and no Result.
 #[derive(Clone, Copy)]
 pub enum Told {
     Nothing,
@@ -55,7 +56,8 @@ pub struct Started {
     pub outcome: Outcome,
 }
 
-// The reader's control value without its line.
+// The reader's control value without its line. stays: the bound on last_answer is a short clause of five functions; as a ghost field each
+// definition that puts a core together would have to carry its proof.
 #[derive(Clone, Copy)]
 struct Core {
     last_answer: usize,
@@ -177,8 +179,15 @@ pub fn hear(
     ensures { Hears reader line.old answers.old message.now answer.old copy.old event result line.new answers.new answer.new copy.new }
 {
     if answer.len() < READER_ANSWER_SIZE || copy.len() < PACKET_SIZE {
-        return no_room(reader);
+        return Taken {
+            reader,
+            told: Told::Refused(Refusal::Room),
+            answer: 0,
+            outcome: Outcome::Nothing,
+        };
     }
+    // As long as the longest answer from here on, so that no function below asks for it.
+    let answer = answer.first_chunk_mut().unwrap();
     let listened = framer::listen(reader.line, line, event);
     let halves = listened.halves;
     match listened.found {
@@ -186,11 +195,11 @@ pub fn hear(
         Found::Refused(refusal) => settle(
             halves,
             0,
-            no_packet(sound_core(reader, answers), refusal, answer),
+            no_packet(sound_core(reader), refusal, answer),
         ),
         Found::Packet(head) => received(
             halves,
-            sound_core(reader, answers),
+            sound_core(reader),
             head.length,
             line,
             answers,
@@ -198,18 +207,6 @@ pub fn hear(
             answer,
             copy,
         ),
-    }
-}
-
-// The event is not taken.
-fn no_room(reader: Reader) -> Taken
-    ensures { NoRoom reader result }
-{
-    Taken {
-        reader,
-        told: Told::Refused(Refusal::Room),
-        answer: 0,
-        outcome: Outcome::Nothing,
     }
 }
 
@@ -229,11 +226,10 @@ fn quiet(reader: Reader, halves: Halves) -> Taken
 }
 
 // Any control value is taken: an answer longer than its buffer is none.
-fn sound_core(reader: Reader, answers: &[u8]) -> Core
-    requires { length answers.now ≡ reader_answer_size }
-    ensures { SoundCore reader answers.now result }
+fn sound_core(reader: Reader) -> Core
+    ensures { SoundCore reader result }
 {
-    let last_answer = if reader.last_answer <= answers.len() {
+    let last_answer = if reader.last_answer <= READER_ANSWER_SIZE {
         reader.last_answer
     } else {
         0
@@ -292,12 +288,12 @@ fn received(
     core: Core,
     n: usize,
     line: &[u8; LINE_SIZE],
-    answers: &mut [u8],
+    answers: &mut [u8; READER_ANSWER_SIZE],
     message: &[u8; MESSAGE_SIZE],
-    answer: &mut [u8],
+    answer: &mut [u8; READER_ANSWER_SIZE],
     copy: &mut [u8],
 ) -> Taken
-    requires { (core.last_answer ≤ length answers.old) × (length answers.old ≡ reader_answer_size) × (reader_answer_size ≤ length answer.old) × (packet_size ≤ length copy.old) × (head_size ≤ n) × (n ≤ body_size) }
+    requires { (core.last_answer ≤ reader_answer_size) × (packet_size ≤ length copy.old) × (head_size ≤ n) × (n ≤ body_size) }
     ensures { Receives halves core n line.now answers.old message.now answer.old copy.old result answers.new answer.new copy.new }
 {
     let body = framer::received(halves, line, n);
@@ -329,8 +325,7 @@ fn to_sender(core: Core, body: &[u8], message: &[u8; MESSAGE_SIZE], copy: &mut [
 }
 
 // A refusal of the framer. A reader whose sender waits for an answer sends nothing for it.
-fn no_packet(core: Core, refusal: Refusal, answer: &mut [u8]) -> Stepped
-    requires { reader_answer_size ≤ length answer.old }
+fn no_packet(core: Core, refusal: Refusal, answer: &mut [u8; READER_ANSWER_SIZE]) -> Stepped
     ensures { Leaves (λ s. no_packet_step s refusal) core answer.old result answer.new }
 {
     if sender::waits(core.sender) {
@@ -340,8 +335,7 @@ fn no_packet(core: Core, refusal: Refusal, answer: &mut [u8]) -> Stepped
 }
 
 // A refusal is answered by NAK with its cause.
-fn refuse(core: Core, refusal: Refusal, answer: &mut [u8]) -> Stepped
-    requires { reader_answer_size ≤ length answer.old }
+fn refuse(core: Core, refusal: Refusal, answer: &mut [u8; READER_ANSWER_SIZE]) -> Stepped
     ensures { Leaves (λ s. refuses s refusal) core answer.old result answer.new }
 {
     let count = nak(core.device, refusal, answer);
@@ -349,8 +343,7 @@ fn refuse(core: Core, refusal: Refusal, answer: &mut [u8]) -> Stepped
 }
 
 // ACK and NAK go out only if 9Fh is 1.
-fn nak(device: Device, refusal: Refusal, answer: &mut [u8]) -> usize
-    requires { reader_answer_size ≤ length answer.old }
+fn nak(device: Device, refusal: Refusal, answer: &mut [u8; READER_ANSWER_SIZE]) -> usize
     ensures { Writes (if_handshake (device_of device) (nak_bytes opcode.reader refusal)) answer.old result answer.new }
 {
     if handshake(device) {
@@ -359,8 +352,7 @@ fn nak(device: Device, refusal: Refusal, answer: &mut [u8]) -> usize
     0
 }
 
-fn ack(device: Device, answer: &mut [u8]) -> usize
-    requires { reader_answer_size ≤ length answer.old }
+fn ack(device: Device, answer: &mut [u8; READER_ANSWER_SIZE]) -> usize
     ensures { Writes (if_handshake (device_of device) (seal (reply_body opcode.reader Reply.Ack))) answer.old result answer.new }
 {
     if handshake(device) {
@@ -375,9 +367,16 @@ fn handshake(device: Device) -> bool
     table::value(device.table, 0x9F) == 1
 }
 
-// 4 to 6, then the command.
-fn judge(core: Core, body: &[u8], last: &[u8], answers: &mut [u8], answer: &mut [u8]) -> Stepped
-    requires { (core.last_answer ≤ length answers.old) × (length answers.old ≡ reader_answer_size) × (reader_answer_size ≤ length answer.old) × (head_size ≤ length body.now) }
+// 4 to 6, then the command. stays: the two buffers go side by side; as one struct of two `&mut` every contract would name them through its
+// entry and its exit.
+fn judge(
+    core: Core,
+    body: &[u8],
+    last: &[u8],
+    answers: &mut [u8; READER_ANSWER_SIZE],
+    answer: &mut [u8; READER_ANSWER_SIZE],
+) -> Stepped
+    requires { (core.last_answer ≤ reader_answer_size) × (head_size ≤ length body.now) }
     ensures { Judges judged_step core body.now last.now answers.old answer.old result answers.new answer.new }
 {
     if body[2] != HOST {
@@ -398,10 +397,10 @@ fn known(
     command: Command,
     body: &[u8],
     last: &[u8],
-    answers: &mut [u8],
-    answer: &mut [u8],
+    answers: &mut [u8; READER_ANSWER_SIZE],
+    answer: &mut [u8; READER_ANSWER_SIZE],
 ) -> Stepped
-    requires { (core.last_answer ≤ length answers.old) × (length answers.old ≡ reader_answer_size) × (reader_answer_size ≤ length answer.old) × (head_size ≤ length body.now) }
+    requires { (core.last_answer ≤ reader_answer_size) × (head_size ≤ length body.now) }
     ensures { Judges (known_step command) core body.now last.now answers.old answer.old result answers.new answer.new }
 {
     let data = packet::data_part(body);
@@ -420,10 +419,10 @@ fn perform(
     command: Command,
     status: u8,
     data: &[u8],
-    answers: &mut [u8],
-    answer: &mut [u8],
+    answers: &mut [u8; READER_ANSWER_SIZE],
+    answer: &mut [u8; READER_ANSWER_SIZE],
 ) -> Stepped
-    requires { (core.last_answer ≤ length answers.old) × (length answers.old ≡ reader_answer_size) × (reader_answer_size ≤ length answer.old) }
+    requires { core.last_answer ≤ reader_answer_size }
     ensures { Performs core command status «data».now answers.old answer.old result answers.new answer.new }
 {
     // The same core put together again: the compiled code then keeps its parts and no second copy, which saves 128 bytes of stack.
@@ -439,8 +438,12 @@ fn perform(
 }
 
 // The same answer bytes as then.
-fn again(core: Core, answers: &[u8], answer: &mut [u8]) -> Stepped
-    requires { (core.last_answer ≤ length answers.now) × (length answers.now ≡ reader_answer_size) × (reader_answer_size ≤ length answer.old) }
+fn again(
+    core: Core,
+    answers: &[u8; READER_ANSWER_SIZE],
+    answer: &mut [u8; READER_ANSWER_SIZE],
+) -> Stepped
+    requires { core.last_answer ≤ reader_answer_size }
     ensures { Again core answers.now answer.old result answer.new }
 {
     let count = core.last_answer;
@@ -454,10 +457,9 @@ fn act(
     acted: Acted,
     command: Command,
     data: &[u8],
-    answers: &mut [u8],
-    answer: &mut [u8],
+    answers: &mut [u8; READER_ANSWER_SIZE],
+    answer: &mut [u8; READER_ANSWER_SIZE],
 ) -> Stepped
-    requires { (length answers.old ≡ reader_answer_size) × (reader_answer_size ≤ length answer.old) }
     ensures { Acts core acted command «data».now answers.old answer.old result answers.new answer.new }
 {
     let count = answer_to(core.device, command, data, answer);
@@ -471,8 +473,12 @@ fn act(
 }
 
 // PARAM_REQUEST is answered by a PARAM_SEND in any case, the others by ACK.
-fn answer_to(device: Device, command: Command, data: &[u8], answer: &mut [u8]) -> usize
-    requires { reader_answer_size ≤ length answer.old }
+fn answer_to(
+    device: Device,
+    command: Command,
+    data: &[u8],
+    answer: &mut [u8; READER_ANSWER_SIZE],
+) -> usize
     ensures { Writes (answer_to (device_of device) command «data».now) answer.old result answer.new }
 {
     match command {
@@ -482,11 +488,10 @@ fn answer_to(device: Device, command: Command, data: &[u8], answer: &mut [u8]) -
 }
 
 // The pairs are written into the middle of the room, after the header; then header and checksum are filled in around them.
-fn request(table: Table, asked: &[u8], answer: &mut [u8]) -> usize
-    requires { reader_answer_size ≤ length answer.old }
+fn request(table: Table, asked: &[u8], answer: &mut [u8; READER_ANSWER_SIZE]) -> usize
     ensures { Writes (request_bytes (values_of table) asked.now) answer.old result answer.new }
 {
-    match table::answer(table, asked, &mut answer[4..]) {
+    match table::answer(table, asked, &mut answer[packet::HEAD_SIZE..]) {
         Ok(count) => packet::size_of(packet::fill(answer, PARAM_SEND, READER, 0, count)),
         Err(_) => 0,
     }
