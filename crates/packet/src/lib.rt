@@ -238,7 +238,7 @@ fn seal(room: &mut [u8], n: usize)
 pub fn fill(room: &mut [u8], opcode: u8, source: u8, status: u8, n: usize) -> Result<usize, Refusal>
     ensures { Fill room.old opcode source status n result room.new }
 {
-    if room.len() < 6 || room.len() - 6 < n {
+    if room.len() < n.saturating_add(HEAD_SIZE + CHECKSUM_SIZE) {
         return Err(Refusal::Room);
     }
     let size = fields(opcode, source, status, n)?;

@@ -5,8 +5,8 @@ use Rattle.std.proofs.lemmas.Result.{err_from_is_err_and}
 use Rattle.packet.proofs.Writing.{fields_small, fill_room, fill_refused, fill_written}
 use Rattle.packet.proofs.fill.Goals as goal
 
-pub returns-then-room-lt6 : goal.returns-then-room-lt6
-returns-then-room-lt6 c = fill_room (omega arith)
+pub returns-then-room-saturating_add : goal.returns-then-room-saturating_add
+returns-then-room-saturating_add c = fill_room (omega arith)
 
 pub returns-in_err-size : goal.returns-in_err-size
 returns-in_err-size c =
