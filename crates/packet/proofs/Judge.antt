@@ -1,20 +1,19 @@
--- The status of a piece, a packet that the check finds, and the data part. Assumes nothing.
-use Prim.Native.Nat.{ℕ, min, max, ◌+◌, ◌-◌, ◌*◌, ◌/◌, ◌%◌, ◌≤◌, ◌<◌}
-use mathlib.Core.Path.{◌≡◌, sym, ap, ◌∙◌}
+-- The status of a piece, and a packet that the check finds. Assumes nothing.
+use Prim.Native.Nat.{ℕ, ◌+◌, ◌-◌, ◌*◌, ◌/◌, ◌%◌, ◌≤◌, ◌<◌}
+use mathlib.Core.Path.{◌≡◌, sym}
 use mathlib.Core.Bool.{true}
-use mathlib.Core.List.{List, []}
+use mathlib.Core.List.{List}
 use lib.Dec.{eqb}
-use lib.ListN.{length, get_or, take, drop, length-drop, drop_of_length-le}
-use lib.Seq.{take-nil, take_all, get_or-take}
+use lib.ListN.{length, get_or, take}
+use lib.Seq.{get_or-take}
 use native.Mathlib.Omega.{arith}
-use native.Mathlib.Decide.{dec_le}
 use Rattle.packet.proofs.Sums.{first_in_sum}
 use borrow.Author.Tests.{eq-eqb, ne_eqb, le-ltb}
 use Rattle.words.specs.Lists.{Wide}
 use Rattle.words.proofs.Lists.{either_true}
 use Rattle.packet.specs.Opcodes.{decode_data}
-use Rattle.packet.specs.Packet.{status_allowed, sum_of, check_of, checksum_of, checksum_in, body_in, data_in, head_in}
-use Rattle.packet.specs.Promises.{Complement, Check, DataPart}
+use Rattle.packet.specs.Packet.{status_allowed, sum_of, check_of, checksum_of, checksum_in, body_in, head_in}
+use Rattle.packet.specs.Promises.{Complement, Check}
 use Rattle.std.specs.Prelude.{Ok}
 
 -- The more bit and the resend mark are all that a piece of a message may have.
@@ -41,19 +40,3 @@ check_right {s} {n} {worked} first h l k e =
             eq-eqb (get_or s n 0 * 256 + get_or s (n + 1) 0) (65536 - sum_of (take n s)) due,
           );
     }
-
--- The data part, whatever bytes are lent.
-pub data_short : {s : List ℕ} → length s < 4 → DataPart s []
-unfolding data_in
-data_short {s} h = record { is = simp (drop_of_length-le s {i = 4} (omega arith), take-nil) }
-
-pub data_there : {s : List ℕ} {n end : ℕ} → 4 ≤ length s → Wide (get_or s 0 0) n → end ≡ max 4 (min n (length s)) → DataPart s (take (end - 4) (drop 4 s))
-unfolding data_in
-data_there {s} {n} {end} h first e = let f = first.is in record { is = by (dec_le n (length s)) }
-  where
-    by : Dec (n ≤ length s) → take (end - 4) (drop 4 s) ≡ take (get_or s 0 0 - 4) (drop 4 s)
-    by (yes l) = let f = first.is in ap (λ (k : ℕ). take k (drop 4 s)) (omega arith)
-    by (no l) =
-        let f = first.is in
-        let k = length-drop 4 s in
-        take_all (end - 4) (drop 4 s) (omega arith) ∙ sym (take_all (get_or s 0 0 - 4) (drop 4 s) (omega arith))

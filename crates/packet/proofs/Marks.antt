@@ -6,13 +6,13 @@ use mathlib.Core.List.{List, ◌∷◌, ◌++◌}
 use native.Mathlib.Omega.{arith}
 use native.Mathlib.Decide.{dec_lt}
 use lib.Dec.{eqb}
-use lib.ListN.{length, get_or, take, drop, set, length-set, length-take, get_or-eq_default}
+use lib.ListN.{length, get_or, take, drop, set, length-set, length-take}
 use lib.Seq.{set_split, set_out, set-set, get_or-set_same}
 use borrow.Author.Tests.{eq-eqb, ne_eqb, eqb-true, eqb-false}
 use Rattle.words.specs.Lists.{both, same_bytes, Compared, pick}
 use Rattle.words.proofs.Lists.{same_refl, same_equal, other_length, same_append, rest_part}
-use Rattle.packet.specs.Packet.{unmarked, marked, equal_unmarked, resent_equal, body_of}
-use Rattle.packet.specs.Promises.{Equal, Resent}
+use Rattle.packet.specs.Packet.{unmarked, marked, equal_unmarked, body_of}
+use Rattle.packet.specs.Promises.{Equal}
 
 -- A body of four bytes or more: what stands before the status, the status without its mark, what stands behind it.
 pub unmarked_split : (b : List ℕ) → 4 ≤ length b → unmarked b ≡ take 3 b ++ (get_or b 3 0 / 2 * 2 ∷ drop 4 b)
@@ -89,20 +89,3 @@ equal_same a b e = rw e (same_refl (unmarked b))
 pub equal_only : (a b : List ℕ) → equal_unmarked a b ≡ true → unmarked a ≡ unmarked b
 unfolding equal_unmarked
 equal_only a b e = same_equal (unmarked a) (unmarked b) e
-
--- ---- a resent equal
-
-pub resent_short : {last body : List ℕ} → length body < 4 → Resent last body false
-unfolding resent_equal
-resent_short {last} {body} h =
-    let e : get_or body 3 0 ≡ 0 = get_or-eq_default body 0 {n = 3} (omega arith) in
-    record { is = simp (ne_eqb (get_or body 3 0 % 2) 1 (λ q. let z : get_or body 3 0 % 2 ≡ 0 = rw e refl in omega arith)) }
-
-module _ {last body : List ℕ} {v : Bool} (q : v ≡ eqb (get_or body 3 0 % 2) 1) where
-  pub resent_unmarked : v ≡ false → Resent last body v
-  unfolding resent_equal
-  resent_unmarked z = record { is = z ∙ sym (simp (sym q ∙ z)) }
-
-  pub resent_marked : {r : Bool} → v ≡ true → Equal last body r → Resent last body r
-  unfolding resent_equal equal_unmarked
-  resent_marked z k = record { is = k.is ∙ sym (simp (sym q ∙ z)) }

@@ -1,43 +1,27 @@
 -- What header and checksum leave in the room, and how they make a packet around its data. Assumes nothing.
-use Prim.Native.Nat.{ℕ, ◌+◌, ◌-◌, ◌/◌, ◌%◌, ◌≤◌, ◌<◌}
+use Prim.Native.Nat.{ℕ, ◌+◌, ◌-◌, ◌/◌, ◌%◌, ◌≤◌}
 use mathlib.Core.Path.{◌≡◌, refl, sym, ap, ◌∙◌}
-use mathlib.Core.List.{List, [], ◌∷◌, ◌++◌, append_assoc}
+use mathlib.Core.List.{List, [], ◌∷◌, ◌++◌}
 use native.Mathlib.Nat.{add_comm}
 use native.Mathlib.Omega.{arith}
 use lib.ListN.{length, take, drop, length-append, length-take, length-drop}
-use lib.Seq.{take-append-add, drop-drop}
+use lib.Seq.{take-append-add}
 use lib.Dec.{leb, eqb}
-use borrow.Author.Tests.{leb-true, lt-ltb, le-ltb, eq-eqb, ne_eqb}
+use borrow.Author.Tests.{leb-true, le-ltb}
 use mathlib.Core.Bool.{Bool, true, false}
 use Rattle.words.specs.Lists.{pick, over, over_at, Copied}
 use Rattle.words.proofs.Lists.{over_over, over_over_at, length_over_at, take_over, drop_over_at, part_over, copied_over, never}
 use Rattle.packet.specs.Opcodes.{cmd_ack, cmd_nak}
 use Rattle.packet.specs.Packet.{body_of, checksum_of, seal, status_allowed, source_allowed, fields_of, build_of, written, reply_data, reply_opcode, reply_body}
-use Rattle.packet.specs.Promises.{Cause, Complement, Fields, Headed, Sealed, Build, Put, Fill, Answer, Naks}
+use Rattle.packet.specs.Promises.{Fields, Headed, Sealed, Put, Fill, Answer, Naks}
 use Rattle.packet.specs.Refusals.{cause_of, nak_bytes, nak_of}
 use Rattle.packet.specs.Sizes.{answer_size}
 use Rattle.packet.specs.declared.Refusal.{Refusal}
-use Rattle.packet.specs.declared.Refusal.TheVariants.{Source, Status, Data, Room}
+use Rattle.packet.specs.declared.Refusal.TheVariants.{Source, Status, Data}
 use Rattle.packet.specs.declared.Reply.{Reply}
 use Rattle.packet.specs.declared.Reply.TheVariants.{Ack, Nak}
 use Rattle.std.specs.Prelude.{Result}
 use Rattle.std.specs.Prelude.{Ok, Err}
-
--- The four bytes of the header.
-pub header_over : {room four : List ℕ} {o s t n : ℕ} → four ≡ (n + 4) ∷ o ∷ s ∷ t ∷ [] → Headed room o s t n (four ++ drop 4 room)
-unfolding over
-header_over e = record { is = rw e refl }
-
--- The two bytes of the checksum behind a body.
-pub checksum_over : {room two : List ℕ} {n k worked : ℕ} → n + 2 ≤ length room → k ≡ 2 → Complement (take n room) worked → two ≡ worked / 256 % 256 ∷ worked % 256 ∷ [] →
-    Sealed room n (take n room ++ (two ++ drop k (drop n room)))
-unfolding over seal checksum_of
-checksum_over {room} {two} {n} {k} {worked} h f p e =
-    let c = checksum_of (take n room) in
-    let high : worked / 256 % 256 ≡ c / 256 % 256 = omega (arith, p.is) in
-    let low : worked % 256 ≡ c % 256 = omega (arith, p.is) in
-    let l : length (take n room ++ (c / 256 % 256 ∷ c % 256 ∷ [])) ≡ n + 2 = simp (length-append, length-take) (omega arith) in
-    record { is = rw (f, e, high, low, drop-drop 2 n room, l, append_assoc) refl }
 
 -- ---- a packet's length
 
@@ -74,18 +58,6 @@ pub enough : (need : ℕ) (room : List ℕ) (o s t n : ℕ) → need ≤ length 
 unfolding build_of
 enough need room o s t n h = simp (le-ltb (length room) need h)
 
-pub too_little : (need : ℕ) (room : List ℕ) (o s t n : ℕ) → length room < need → build_of need room o s t n ≡ Err Room
-unfolding build_of
-too_little need room o s t n h = simp (lt-ltb (length room) need h)
-
-pub fill_room : {room : List ℕ} {o s t n : ℕ} → length room < n + 6 → Fill room o s t n (Err Room) room
-unfolding written over
-fill_room {room} {o} {s} {t} {n} h = record { is = sym (too_little (n + 6) room o s t n h); room_is = refl }
-
-pub fill_refused : {room : List ℕ} {o s t n : ℕ} {x : Refusal} → n + 6 ≤ length room → Fields o s t n (Err x) → Fill room o s t n (Err x) room
-unfolding written over
-fill_refused {room} {o} {s} {t} {n} h f = record { is = f.is ∙ sym (enough (n + 6) room o s t n h); room_is = refl }
-
 -- The header's four bytes and the data behind them are the body.
 around : (room : List ℕ) (o s t n : ℕ) → n + 6 ≤ length room → take (n + 4) (over ((n + 4) ∷ o ∷ s ∷ t ∷ []) room) ≡ body_of o s t (take n (drop 4 room))
 unfolding over body_of
@@ -107,10 +79,6 @@ fill_written {room} {room₁} {room₂} {o} {s} {t} {n} {m} {size} h f d q k =
     }
 
 -- ---- `put`
-
-pub put_refused : {room d : List ℕ} {o s t : ℕ} {x : Refusal} → Fields o s t (length d) (Err x) → Put room o s t d (Err x) room
-unfolding written over
-put_refused f = record { is = f.is; room_is = refl }
 
 -- Data that was put into the room from the fifth byte on, and then sealed around, is what the packet holds; nothing else is left of it.
 pub sealed_around : (room d : List ℕ) (o s t n : ℕ) → length d + 6 ≤ length room → n ≡ length d →
@@ -140,22 +108,7 @@ put_written {room} {d} {part} {room₂} {o} {s} {t} {size} {r} h f k g =
     let done = filled room d o s t (length d + 6) h h (sym f.is) (rw there at g) in
     record { is = done.0 ∙ enough (length d + 6) room o s t (length d) h; room_is = done.1 }
 
--- ---- `build` and `answer`, in a room that is large enough
-
-pub build_room : {room d : List ℕ} {o s t : ℕ} → length room < 257 → Build room o s t d (Err Room) room
-unfolding written over
-build_room {room} {d} {o} {s} {t} h = record { is = sym (too_little 257 room o s t (length d) h); room_is = refl }
-
-pub build_put : {room room₂ d : List ℕ} {o s t : ℕ} {r : Result ℕ Refusal} → 257 ≤ length room → Put room o s t d r room₂ → Build room o s t d r room₂
-build_put {room} {d = d} {o} {s} {t} h k = record { is = k.is ∙ sym (enough 257 room o s t (length d) h); room_is = k.room_is }
-
-pub answer_room : {room : List ℕ} {s : ℕ} {y : Reply} → length room < 7 → Answer room s y (Err Room) room
-unfolding written over
-answer_room {room} {s} {y} h = record { is = sym (too_little 7 room (reply_opcode y) s 0 (length (reply_data y)) h); room_is = refl }
-
-pub answer_put : {room room₂ : List ℕ} {s : ℕ} {r : Result ℕ Refusal} (y : Reply) → 7 ≤ length room → Put room (reply_opcode y) s 0 (reply_data y) r room₂ → Answer room s y r room₂
-unfolding reply_body
-answer_put {room} {s = s} y h k = record { is = k.is ∙ sym (enough 7 room (reply_opcode y) s 0 (length (reply_data y)) h); room_is = k.room_is }
+-- ---- what answers
 
 -- With room enough a reply from an allowed source is never refused, and its length is the packet's.
 built_reply : (room : List ℕ) (s : ℕ) (y : Reply) → source_allowed s ≡ true → 7 ≤ length room →
@@ -177,28 +130,6 @@ module _ {room room' : List ℕ} {s : ℕ} {y : Reply} {r : Result ℕ Refusal} 
       let b = built_reply room s y a h in
       let i = k.is in
       never (cc)
-
--- ---- `nak`
-
-pub nak_room : {room : List ℕ} {s : ℕ} {x : Refusal} → length room < answer_size → Naks room s x (Err Room) room
-unfolding written over nak_of
-nak_room {room} {s} {x} h = record { is = sym (simp (lt-ltb (length room) answer_size h)); room_is = refl }
-
-module _ {room : List ℕ} {s c : ℕ} {x : Refusal} (h : answer_size ≤ length room) (k : Cause x c) where
-  pub nak_silent : c ≡ 0 → Naks room s x (Ok 0) room
-  unfolding written over nak_of nak_bytes
-  nak_silent e =
-      let none : eqb (cause_of x) 0 ≡ true = eq-eqb (cause_of x) 0 (sym k.is ∙ e) in
-      record { is = sym (simp (le-ltb (length room) answer_size h, none)); room_is = sym (simp none) }
-
-  pub nak_said : {r : Result ℕ Refusal} {room₂ : List ℕ} → (c ≡ 0 → ⊥) → Answer room s (Nak c) r room₂ → Naks room s x r room₂
-  unfolding nak_of nak_bytes reply_opcode reply_data
-  nak_said {r} d a =
-      let some : eqb (cause_of x) 0 ≡ false = ne_eqb (cause_of x) 0 (λ e. d (k.is ∙ e)) in
-      record {
-        is = a.is ∙ (enough answer_size room cmd_nak s 0 1 h ∙ sym (simp (le-ltb (length room) answer_size h, some)));
-        room_is = a.room_is ∙ rw k.is (sym (simp some));
-      }
 
 -- The same of a NAK: never refused, and its length is that of the bytes that answer, which are none where nothing answers.
 built_nak : (room : List ℕ) (s : ℕ) (x : Refusal) → source_allowed s ≡ true → answer_size ≤ length room → nak_of room s x ≡ Ok (length (nak_bytes s x))

@@ -136,6 +136,7 @@ fn sum(s: &[u8]) -> u16
 }
 
 // The checksum of a body: the two's complement of its byte sum.
+#[tactic(auto, unfolding(crate::specs::Packet::checksum_of))]
 fn checksum(s: &[u8]) -> u16
     requires { length s.now ≤ body_size }
     ensures { Complement s.now result }
@@ -171,6 +172,7 @@ pub fn check(s: &[u8]) -> Result<Head, Refusal>
 }
 
 // The data of the packet at the front of these bytes: the part that starts at the fifth byte.
+#[tactic(auto, unfolding(crate::specs::Packet::data_in))]
 pub fn data_part(s: &[u8]) -> &[u8]
     ensures { DataPart s.now result.now }
 {
@@ -218,6 +220,7 @@ fn fields(opcode: u8, source: u8, status: u8, n: usize) -> Result<usize, Refusal
 }
 
 // The four bytes before the data.
+#[tactic(auto, unfolding(words::specs::Lists::over))]
 fn header(room: &mut [u8], opcode: u8, source: u8, status: u8, n: usize)
     requires { (n ≤ data_size) × (head_size ≤ length room.old) }
     ensures { Headed room.old opcode source status n room.new }
@@ -226,6 +229,7 @@ fn header(room: &mut [u8], opcode: u8, source: u8, status: u8, n: usize)
 }
 
 // The two bytes after a body of n bytes.
+#[tactic(auto, unfolding(crate::specs::Packet::seal, crate::specs::Packet::checksum_of, words::specs::Lists::over))]
 fn seal(room: &mut [u8], n: usize)
     requires { (n ≤ body_size) × (n + checksum_size ≤ length room.old) }
     ensures { Sealed room.old n room.new }
@@ -235,6 +239,7 @@ fn seal(room: &mut [u8], n: usize)
 }
 
 // Header and checksum around n bytes of data that already stand in the room from the fifth byte on.
+#[tactic(auto, unfolding(crate::specs::Packet::build_of, crate::specs::Packet::fields_of, crate::specs::Packet::written, words::specs::Lists::over))]
 pub fn fill(room: &mut [u8], opcode: u8, source: u8, status: u8, n: usize) -> Result<usize, Refusal>
     ensures { Fill room.old opcode source status n result room.new }
 {
@@ -248,6 +253,7 @@ pub fn fill(room: &mut [u8], opcode: u8, source: u8, status: u8, n: usize) -> Re
 }
 
 // A packet at the front of the room; the bytes behind it stay as they were.
+#[tactic(auto, unfolding(crate::specs::Packet::build_of, crate::specs::Packet::written, words::specs::Lists::over))]
 pub fn build(
     room: &mut [u8],
     opcode: u8,
@@ -264,6 +270,7 @@ pub fn build(
 }
 
 // The same in a room that holds the packet, where there is one: nothing is put into the room before its fields are judged.
+#[tactic(auto, unfolding(crate::specs::Packet::fields_of, crate::specs::Packet::written, words::specs::Lists::over))]
 fn put(room: &mut [u8], opcode: u8, source: u8, status: u8, data: &[u8]) -> Result<usize, Refusal>
     requires { (head_size ≤ length room.old) × (length «data».now ≤ data_size → length «data».now + 6 ≤ length room.old) }
     ensures { Put room.old opcode source status «data».now result room.new }
@@ -281,6 +288,7 @@ pub fn size_of(built: Result<usize, Refusal>) -> usize
 }
 
 // An answer of either side: CMD_ACK, or CMD_NAK with its cause.
+#[tactic(auto, unfolding(crate::specs::Packet::build_of, crate::specs::Packet::written, words::specs::Lists::over, crate::specs::Packet::reply_opcode, crate::specs::Packet::reply_data, crate::specs::Packet::reply_body))]
 pub fn answer(room: &mut [u8], source: u8, reply: Reply) -> Result<usize, Refusal>
     ensures { Answer room.old source reply result room.new }
 {
@@ -294,6 +302,7 @@ pub fn answer(room: &mut [u8], source: u8, reply: Reply) -> Result<usize, Refusa
 }
 
 // The NAK that answers a refusal: its size, 0 where nothing answers it.
+#[tactic(auto, unfolding(crate::specs::Refusals::nak_of, crate::specs::Refusals::nak_bytes, crate::specs::Packet::build_of, crate::specs::Packet::written, words::specs::Lists::over, crate::specs::Packet::reply_opcode, crate::specs::Packet::reply_data))]
 pub fn nak(room: &mut [u8], source: u8, refusal: Refusal) -> Result<usize, Refusal>
     ensures { Naks room.old source refusal result room.new }
 {
@@ -321,6 +330,7 @@ pub fn equal_unmarked(a: &[u8], b: &[u8]) -> bool
 }
 
 // Whether a body is marked and equal to the last accepted one apart from the mark.
+#[tactic(auto, unfolding(crate::specs::Packet::resent_equal, crate::specs::Packet::equal_unmarked))]
 pub fn resent_equal(last: &[u8], body: &[u8]) -> bool
     ensures { Resent last.now body.now result }
 {

@@ -92,10 +92,6 @@ drop_over p room n h =
     let e : n ≡ length p + (n - length p) = omega arith in
     rw e (drop-append-add p (drop (length p) room) (n - length p) ∙ drop-drop (n - length p) (length p) room)
 
-pub take_over_at : (a : ℕ) (q room : List ℕ) → a ≤ length room → take a (over_at a q room) ≡ take a room
-unfolding over_at
-take_over_at a q room h = take_at (take a room) (over q (drop a room)) a (length-take-le a room h)
-
 pub drop_over_at : (a : ℕ) (q room : List ℕ) → a ≤ length room → drop a (over_at a q room) ≡ over q (drop a room)
 unfolding over_at
 drop_over_at a q room h = drop_at (take a room) (over q (drop a room)) a (length-take-le a room h)
