@@ -175,9 +175,6 @@ module _ {f : Framer} {second : Bool} {buffer : List ℕ} (long : length buffer 
 
 -- ---- the events
 
-pub going : {f : Framer} {second : Bool} {buffer buffer' : List ℕ} {e e' : Event} {r : Going} → e ≡ e' → GoesOn f second buffer e' r buffer' → GoesOn f second buffer e r buffer'
-going e k = rw e k
-
 pub message_gap_left : {f : Framer} {second : Bool} {buffer : List ℕ} {e : Event} → e ≡ MessageGap → GoesOn f second buffer e Left buffer
 unfolding goes_on
 message_gap_left e = left (rw e refl) refl

@@ -1,5 +1,5 @@
 -- Many bytes at once: bytes that are moved inside a packet, or ignored, are as many events of which nothing is told. Assumes nothing.
-use Prim.Native.Nat.{ℕ, suc, ◌+◌, ◌-◌, ◌≤◌, ◌<◌, min}
+use Prim.Native.Nat.{ℕ, suc, ◌+◌, ◌-◌, ◌≤◌, ◌<◌}
 use mathlib.Core.Path.{◌≡◌, refl, sym, ap, ◌∙◌}
 use mathlib.Core.Bool.{Bool, true, false}
 use mathlib.Core.Logic.{◌⊎◌, inl, inr}
@@ -19,7 +19,7 @@ use Rattle.packet.specs.Sizes.{packet_size}
 use Rattle.framer.specs.Framer.{hearing, silent, judged, at_byte, framer_step}
 use Rattle.framer.specs.Promises.{Begun, Deaf}
 use Rattle.framer.specs.Halves.{line_size, place_of, half_of, line_in, kept_in, halves_with, listened_of, buffer_after, moved_of, Listens, Place}
-use Rattle.framer.specs.Silence.{listen_step, silent_for, TakesIn, length_of, LengthOf, InsideOf}
+use Rattle.framer.specs.Silence.{listen_step, silent_for, TakesIn, length_of, InsideOf}
 use Rattle.framer.specs.declared.Event.TheVariants.{Byte}
 use Rattle.framer.specs.declared.Found.TheVariants.{Nothing}
 use Rattle.framer.specs.declared.Framer.{Framer}
@@ -180,14 +180,6 @@ next_tells got (y ∷ ys) h = simp (told (h (omega arith)))
     told (inr l) = let e = size in let first = first_of got ys y in whole_told_lem s (omega arith)
 
 -- ---- one law for each answer
-
-module _ {n w : ℕ} {line bytes : List ℕ} (k : LengthOf n line bytes w) where
-  pub inside_left : (w < n) ⊎ ((n ≤ w) × (w < 4)) → InsideOf n line bytes 0
-  inside_left (inl l) = let e = k.is in let s = k.small in record { few = omega arith; inside = λ z. absurd (z refl); ends = λ m q. omega arith; small = omega arith }
-  inside_left (inr l) = let e = k.is in let s = k.small in let low = l.1 in record { few = omega arith; inside = λ z. absurd (z refl); ends = λ m q. absurd (omega arith); small = omega arith }
-
-  pub inside_most : {r : ℕ} → 4 ≤ w → n ≤ w → r ≡ min (length bytes) (w + 1 - n) → InsideOf n line bytes r
-  inside_most low l least = let e = k.is in let s = k.small in record { few = omega arith; inside = λ z. (omega arith, omega arith); ends = λ m q. omega arith; small = omega arith }
 
 pub takes_none : {h : Halves} {buffer bytes : List ℕ} → length bytes ≡ 0 → TakesIn h buffer bytes (record { halves = h; count = 0 }) buffer
 unfolding silent_for

@@ -33,10 +33,6 @@ pub begun_count : {f : Framer} → f.count < packet_size → Begun f f.count
 unfolding begun_of
 begun_count {f} h = record { is = simp (lt-ltb f.count packet_size h); most = h }
 
-pub begun_none : {f : Framer} → packet_size ≤ f.count → Begun f 0
-unfolding begun_of
-begun_none {f} h = record { is = simp (le-ltb f.count packet_size h); most = omega arith }
-
 module _ {f : Framer} {r : Framed} where
   pub gap_deaf : f.deaf ≡ true → Ended Nothing r → Gap f r
   gap_deaf e k = record { is = k.is ∙ simp e }
@@ -141,9 +137,6 @@ gap_frames {f} {line} h g =
 pub hear_room : {f : Framer} {line : List ℕ} {e : Event} → length line < packet_size → Frames f line e (record { framer = f; found = Refused Room }) line
 unfolding framed_of line_after
 hear_room {f} {line} {e} h = record { is = simp (lt-ltb (length line) packet_size h); line_is = simp (lt-ltb (length line) packet_size h) }
-
-pub hear_byte : {f : Framer} {line line' : List ℕ} {e : Event} {b : ℕ} {r : Framed} → e ≡ Byte b → Frames f line (Byte b) r line' → Frames f line e r line'
-hear_byte e k = rw e k
 
 -- A message gap is a character gap to the framer.
 same_gap : {f : Framer} {line line' : List ℕ} {r : Framed} → Frames f line CharacterGap r line' → Frames f line MessageGap r line'

@@ -1,14 +1,13 @@
 -- One law for each answer of the functions over the two halves. Assumes nothing.
-use Prim.Native.Nat.{ℕ, ◌+◌, ◌-◌, ◌≤◌, ◌<◌}
+use Prim.Native.Nat.{ℕ, ◌+◌, ◌-◌, ◌≤◌}
 use mathlib.Core.Path.{◌≡◌, refl, sym, ap, ◌∙◌}
 use mathlib.Core.Bool.{Bool, true, false, not}
 use mathlib.Core.List.{List, [], ◌∷◌, ◌++◌}
 use native.Mathlib.Omega.{arith}
-use native.Mathlib.Nat.{add-sub_cancel_left}
 use lib.Dec.{leb}
 use lib.ListN.{length, take, drop, length-take, length-drop}
 use lib.Seq.{drop_at, take_at, length-take-le, take-append-le, take-take}
-use borrow.Author.Tests.{le-leb, lt-leb, leb-true}
+use borrow.Author.Tests.{le-leb, leb-true}
 use Rattle.words.specs.Lists.{pick, Bytes}
 use Rattle.words.specs.Machine.{Done}
 use Rattle.words.proofs.Lists.{bytes_take, bytes_drop}
@@ -22,44 +21,10 @@ use Rattle.framer.proofs.Outcomes.{brings, found_is, view_is, view_idle, told_no
 use Rattle.framer.proofs.Steps.{stored}
 use Rattle.framer.proofs.Theorems.{length_after}
 use Rattle.framer.specs.Promises.{found_of, framed_of, line_after, Frames}
-use Rattle.framer.specs.Halves.{line_size, place_of, half_of, last_of, line_in, kept_in, accepted_of, received_in, listened_of, buffer_after, Listens, moved_of, Received, Kept, Place, Last}
+use Rattle.framer.specs.Halves.{line_size, place_of, half_of, last_of, line_in, kept_in, accepted_of, received_in, listened_of, buffer_after, Listens, moved_of, Place}
 use Rattle.framer.specs.declared.Event.{Event}
 use Rattle.framer.specs.declared.Framed.{Framed}
 use Rattle.framer.specs.declared.Halves.{Halves}
-
-pub place_second : {s : Bool} → s ≡ true → Place s packet_size
-unfolding place_of
-place_second e = record { is = simp e; most = omega arith }
-
-pub place_first : {s : Bool} → s ≡ false → Place s 0
-unfolding place_of
-place_first e = record { is = simp e; most = omega arith }
-
-pub last_some : {h : Halves} → h.last ≤ body_size → Last h h.last
-unfolding last_of
-last_some {h} l = record { is = simp (le-leb h.last body_size l); most = l }
-
-pub last_none : {h : Halves} → body_size < h.last → Last h 0
-unfolding last_of
-last_none {h} l = record { is = simp (lt-leb h.last body_size l); most = omega arith }
-
--- The part from a to a + n has n bytes.
-part_of : (a n : ℕ) (s : List ℕ) → take (a + n - a) (drop a s) ≡ take n (drop a s)
-part_of a n s = ap (λ (k : ℕ). take k (drop a s)) (add-sub_cancel_left a n)
-
-pub kept_is : {h : Halves} {buffer : List ℕ} {a n : ℕ} → Place (not h.second) a → Last h n → Kept h buffer (take (a + n - a) (drop a buffer))
-unfolding kept_in
-kept_is {h} {buffer} {a} {n} p l = record { is = part_of a n buffer ∙ rw (p.is, l.is) refl }
-
-pub received_is : {h : Halves} {buffer : List ℕ} {a n : ℕ} → length buffer ≡ line_size → Place h.second a → n ≤ packet_size → Received h buffer n (take (a + n - a) (drop a buffer))
-unfolding received_in
-received_is {h} {buffer} {a} {n} long p l =
-    let m = p.most in
-    record { is = part_of a n buffer ∙ simp (le-leb n packet_size l, sym p.is); long = λ z. rw (part_of a n buffer) (simp (length-take, length-drop) (omega arith)) }
-
-pub received_none : {h : Halves} {buffer : List ℕ} {n : ℕ} → packet_size < n → Received h buffer n []
-unfolding received_in
-received_none {h} {buffer} {n} l = record { is = simp (lt-leb n packet_size l); long = λ z. omega arith }
 
 pub listens : {h : Halves} {buffer half : List ℕ} {e : Event} {a : ℕ} {r : Framed} → length buffer ≡ line_size → Place h.second a →
     Frames h.framer (take (a + packet_size - a) (drop a buffer)) e r half →

@@ -82,6 +82,7 @@ pub fn hear(framer: Framer, line: &mut [u8], event: Event) -> Framed
 }
 
 // The bytes begun. A count that the line buffer cannot have is 0.
+#[tactic(auto, unfolding(crate::specs::Promises::begun_of))]
 fn begun(framer: Framer) -> usize
     ensures { Begun framer result }
 {
@@ -343,6 +344,7 @@ fn length_of(n: usize, line: &[u8], bytes: &[u8]) -> usize
 }
 
 // The first n bytes of the half that receives.
+#[tactic(auto, unfolding(crate::specs::Halves::received_in))]
 pub fn received(halves: Halves, buffer: &[u8; LINE_SIZE], n: usize) -> &[u8]
     ensures { Received halves buffer.now n result.now }
 {
@@ -354,6 +356,7 @@ pub fn received(halves: Halves, buffer: &[u8; LINE_SIZE], n: usize) -> &[u8]
 }
 
 // The last accepted packet.
+#[tactic(auto, unfolding(crate::specs::Halves::kept_in))]
 pub fn kept(halves: Halves, buffer: &[u8; LINE_SIZE]) -> &[u8]
     ensures { Kept halves buffer.now result.now }
 {
@@ -373,6 +376,7 @@ pub fn accept(halves: Halves, n: usize) -> Halves
 }
 
 // Where a half starts.
+#[tactic(auto, unfolding(crate::specs::Halves::place_of))]
 fn place(second: bool) -> usize
     ensures { Place second result }
 {
@@ -383,6 +387,7 @@ fn place(second: bool) -> usize
 }
 
 // How many bytes the last accepted packet has; what it cannot have is none.
+#[tactic(auto, unfolding(crate::specs::Halves::last_of))]
 fn last(halves: Halves) -> usize
     ensures { Last halves result }
 {

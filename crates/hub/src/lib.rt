@@ -148,6 +148,7 @@ fn cleared(hub: Hub, event: Event) -> Hub
 }
 
 // ACK or NAK for what is told, and how many bytes it has.
+#[tactic(auto, unfolding(words::specs::Lists::over))]
 fn reply(told: Told, answer: &mut [u8]) -> usize
     requires { hub_answer_size ≤ length answer.old }
     ensures { Writes (name_bytes told) answer.old result answer.new }
@@ -251,6 +252,7 @@ fn accepted(told: Told) -> bool
 }
 
 // Any control value is taken: what the gather buffer cannot hold counts as nothing.
+#[tactic(auto, unfolding(crate::specs::Promises::sound_of))]
 fn sound(gathering: Gathering) -> Held
     ensures { Gatherings gathering result.gathering }
 {
