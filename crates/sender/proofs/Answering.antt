@@ -2,22 +2,23 @@
 use Prim.Native.Nat.{ℕ, ◌+◌, ◌-◌, ◌≤◌, ◌<◌}
 use mathlib.Core.Path.{◌≡◌, refl, sym, ap, ◌∙◌}
 use mathlib.Core.Bool.{Bool, true, false}
-use mathlib.Core.List.{List, [], ◌∷◌}
+use mathlib.Core.List.{List, [], ◌∷◌, ◌++◌}
 use native.Mathlib.Omega.{arith}
 use native.Mathlib.Decide.{dec_le, ℕ_discrete}
 use lib.Dec.{eqb, ltb}
-use lib.ListN.{length, take, drop, length-take, length-drop}
+use lib.ListN.{length, take, drop, length-append, length-take, length-drop, take-append-drop}
 use lib.Seq.{take_all, take-append-le, take-append_seam, drop-append-le}
 use borrow.Author.Tests.{eq-eqb, ne_eqb, lt-ltb, le-ltb}
-use Rattle.words.specs.Lists.{both, either, same_bytes, over, Copied}
+use Rattle.std.specs.Array.{IsFirstChunk}
+use Rattle.words.specs.Lists.{both, either, same_bytes, over, over_at}
 use Rattle.words.specs.Machine.{Done}
-use Rattle.words.proofs.Lists.{over_nil, copied_over, both_false, other_length}
+use Rattle.words.proofs.Lists.{over_nil, part_over, both_false, other_length}
 use Rattle.packet.specs.Opcodes.{reader, decode_data}
 use Rattle.packet.specs.Packet.{body_of}
 use Rattle.packet.specs.declared.Refusal.TheVariants as refusal
 use Rattle.sender.specs.Pieces.{next_size, pieces_of, bodies_of, packets_of}
 use Rattle.sender.specs.Sender.{SenderState, nothing_out, some, waits, Sent, copy, delivered, failed, refused, gap_due, begins, start_step, fails, resends, out_step, sender_step}
-use Rattle.sender.specs.Promises.{Waits, name_of, copy_of, piece_of, rest_of, behind_of, last_of, out_of, state_of, moved_to, going_on, resending, copied_by, control_after, begun_control, started_of, Starts, Hears, NextSize, Sounds, Refuses, Moves, Ends, Fails, due_of, Due, Out, present_of, Writes, Copies, Begins, OutSteps, sound_of}
+use Rattle.sender.specs.Promises.{Waits, Idle, name_of, copy_of, piece_of, rest_of, behind_of, last_of, out_of, state_of, moved_to, going_on, resending, copied_by, control_after, begun_control, started_of, Starts, Hears, NextSize, Sounds, Refuses, Moves, Ends, Fails, due_of, Due, Out, present_of, Writes, Copies, Begins, OutSteps, sound_of}
 use Rattle.sender.specs.declared.Sender.{Sender}
 use Rattle.sender.specs.declared.Heard.{Heard}
 use Rattle.sender.specs.declared.Heard.TheVariants.{Ack, Nak, TimeOut, Nothing}
@@ -47,8 +48,8 @@ going_on_lem s buffer k =
 
 pub going_out_by : {s m : Sender} {n : ℕ} (buffer : List ℕ) → Out s → length buffer ≡ 4096 → s.at + s.size < s.length →
     NextSize (take (s.at + s.size - s.at) (drop s.at buffer)) (take (s.length - (s.at + s.size)) (drop (s.at + s.size) buffer)) n →
-    Moves s (s.at + s.size) n 0 s.copies m → Out m
-going_out_by {s} buffer o long h k v = rw (v.is ∙ going_on_lem s buffer k) (going_out s buffer o long h)
+    Moves s s.at s.size s.resends s.copies m → Out (record m { at = s.at + s.size; size = n; resends = 0 })
+going_out_by {s} buffer o long h k v = rw v.is (rw (going_on_lem s buffer k) (going_out s buffer o long h))
 
 -- ---- a step with a message out
 
@@ -72,8 +73,8 @@ unfolding fails stands copy_of name_of control_after
 fail_answer {s} e f = end_answer {x = failed s.copies} refl refl e refl f.is
 
 module _ {s : Sender} {buffer room : List ℕ} {r : Sending} (o : Out s) where
-  pub again_copy : {n : Sender} {room' : List ℕ} → s.resends < 2 → Moves s s.at s.size (s.resends + 1) (s.copies + 1) n →
-      Copies n buffer 1 false room r room' → OutSteps s buffer room TimeOut r room'
+  pub again_copy : {n : Sender} {room' : List ℕ} → s.resends < 2 → Moves s s.at s.size s.resends s.copies n →
+      Copies (record n { resends = s.resends + 1; copies = s.copies + 1 }) buffer 1 false room r room' → OutSteps s buffer room TimeOut r room'
   unfolding copied_by out_step resends stands present_of piece_of
   again_copy h m k =
       copy_answer {s' = resending s} {body = present_of s buffer 1} refl
@@ -100,12 +101,12 @@ module _ {s : Sender} {buffer room : List ℕ} {r : Sending} (o : Out s) where
 module _ {s : Sender} {buffer room : List ℕ} {r : Sending} (o : Out s) (long : length buffer ≡ 4096) where
   pub onward_next : {n : ℕ} {g : Sender} {room' : List ℕ} → s.at + s.size < s.length →
       NextSize (take (s.at + s.size - s.at) (drop s.at buffer)) (take (s.length - (s.at + s.size)) (drop (s.at + s.size) buffer)) n →
-      Moves s (s.at + s.size) n 0 s.copies g → Copies g buffer 0 false room r room' → OutSteps s buffer room Ack r room'
+      Moves s s.at s.size s.resends s.copies g → Copies (record g { at = s.at + s.size; size = n; resends = 0 }) buffer 0 false room r room' → OutSteps s buffer room Ack r room'
   unfolding copied_by stands out_step
   onward_next h k m w =
       copy_answer {s' = going_on s buffer} {body = present_of (going_on s buffer) buffer 0} refl
       (step_is s buffer Ack o.out) (rw (tail_cut s buffer o long h) refl)
-      (rw (m.is ∙ going_on_lem s buffer k) at w.writes)
+      (rw (going_on_lem s buffer k) at (rw m.is at w.writes))
 
   pub onward_delivered : s.length ≤ s.at + s.size → Ends s r → OutSteps s buffer room Ack r room
   unfolding stands out_step copy_of name_of control_after
@@ -120,6 +121,19 @@ out_as e k = rw e k
 pub out_nothing : {s : Sender} {buffer room : List ℕ} {h : Heard} → h ≡ Nothing → Out s → OutSteps s buffer room h (record { sender = s; outcome = outcome.Nothing }) room
 unfolding out_step control_after name_of copy_of
 out_nothing {s} {buffer} {room} e o = let step = step_is s buffer Nothing o.out in rw e (record { is = rw step refl; room_is = rw step (sym (over_nil room)) })
+
+-- ---- the front of the room, lent as an array and put back
+
+module _ {room front : List ℕ} (f : IsFirstChunk room front 257) where
+  pub front_same : front ++ drop 257 room ≡ room
+  front_same = rw f.same (take-append-drop 257 room)
+
+  pub front_over : (p : List ℕ) {part : List ℕ} → length part ≡ 257 → part ≡ over p front → part ++ drop 257 room ≡ over p room
+  unfolding over over_at
+  front_over p {part} l e =
+      let enough = f.enough in
+      let long : length part ≡ length p + (length front - length p) = ap length e ∙ simp (length-append, length-drop) in
+      part_over 0 257 p room part (omega arith) enough (e ∙ rw f.same refl)
 
 pub hear_room : {s : Sender} {buffer room : List ℕ} {h : Heard} {r : Sending} → length room < 257 → Refuses s refusal.Room r → Hears s buffer room h r room
 hear_room {s} {buffer} {room} h k =
@@ -147,13 +161,15 @@ module _ {s n : Sender} {buffer room : List ℕ} {h : Heard} (l : 257 ≤ length
         room_is = a.room_is ∙ rw (le-ltb (length room) 257 l, state_sound s n buffer k) refl;
       }
 
-  pub hear_out : {room' : List ℕ} {r : Sending} → length buffer ≡ 4096 → OutSteps n buffer room h r room' → Hears s buffer room h r room'
-  hear_out long a = hear_by (control_stands s buffer h long) a
+  pub hear_out : {front part : List ℕ} {r : Sending} → length buffer ≡ 4096 → IsFirstChunk room front 257 → length part ≡ 257 →
+      OutSteps n buffer front h r part → Hears s buffer room h r (part ++ drop 257 room)
+  hear_out long f w a = hear_by (control_stands s buffer h long) (record { is = a.is; room_is = front_over f _ w a.room_is })
 
-  pub hear_nothing : n.out ≡ false → Hears s buffer room h (record { sender = n; outcome = outcome.Nothing }) room
+  pub hear_nothing : {front : List ℕ} → IsFirstChunk room front 257 → n.out ≡ false →
+      Hears s buffer room h (record { sender = n; outcome = outcome.Nothing }) (front ++ drop 257 room)
   unfolding out_of sender_step out_step control_after name_of copy_of
-  hear_nothing o =
-      hear_by (rw (state_sound s n buffer k, ← k.is) (simp o (rested s n buffer k ∙ simp o))) (record { is = simp o; room_is = simp (o, over_nil room) })
+  hear_nothing f o =
+      rw (front_same f) (hear_by (rw (state_sound s n buffer k, ← k.is) (simp o (rested s n buffer k ∙ simp o))) (record { is = simp o; room_is = simp (o, over_nil room) }))
 
 -- ---- a start that is refused
 
@@ -179,13 +195,13 @@ module _ {s : Sender} {buffer room m : List ℕ} {code : ℕ} {r : Sending} wher
         room_is = simp (le-ltb (length room) 257 h, e, over_nil room);
       }
 
-  pub start_long : 257 ≤ length room → 4096 < length m → Refuses s refusal.Start r → Starts s buffer room code m r buffer room
-  start_long h l k = start_refused h (simp (lt-ltb 4096 (length m) l)) k
+  module _ {front : List ℕ} (f : IsFirstChunk room front 257) (k : Refuses s refusal.Start r) where
+    pub start_long : 4096 < length m → Starts s buffer room code m r buffer (front ++ drop 257 room)
+    start_long l = rw (front_same f) (start_refused f.enough (simp (lt-ltb 4096 (length m) l)) k)
 
-  pub start_waits : {n : Sender} → 257 ≤ length room → length m ≤ 4096 → Sounds s n → n.out ≡ true → Refuses s refusal.Start r →
-      Starts s buffer room code m r buffer room
-  unfolding some stands
-  start_waits {n} h l k o x = start_refused h (simp (le-ltb 4096 (length m) l, state_waits s n buffer k o)) x
+    pub start_waits : {n : Sender} → length m ≤ 4096 → Sounds s n → n.out ≡ true → Starts s buffer room code m r buffer (front ++ drop 257 room)
+    unfolding some stands
+    start_waits {n} l x o = rw (front_same f) (start_refused f.enough (simp (le-ltb 4096 (length m) l, state_waits s n buffer x o)) k)
 
 -- ---- a message that is begun
 
@@ -287,24 +303,31 @@ module _ (s : Sender) (buffer m : List ℕ) (code : ℕ) (small : s.size ≤ 250
 
 -- ---- the start
 
-pub begin_copy : {s : Sender} {buffer buffer' room room' m : List ℕ} {code n : ℕ} {gap : Bool} {r : Sending} → length m ≤ 4096 → length buffer ≡ 4096 →
-    Due s buffer code m gap → Copied m buffer buffer' → NextSize (take 0 m) m n →
-    Copies (record { out = true; code = code; length = length m; at = 0; size = n; resends = 0; copies = 0; failed = false; delivered = false }) buffer' 0 gap room r room' →
-    Begins s buffer room code m r buffer' room'
-begin_copy l b due copied k c =
-    record { buffer_is = copied_over (omega arith) copied; copies = rw (k.is, due.is) at c }
+-- The control value as the code makes it, from an idle one.
+abbrev begun_from : Sender → ℕ → List ℕ → ℕ → Sender
+begun_from i code m n =
+    record { out = true; code = code; length = length m; at = i.at; size = n; resends = i.resends; copies = i.copies; failed = i.failed; delivered = i.delivered }
 
-pub begun_out_by : {m : List ℕ} {code n : ℕ} → length m ≤ 4096 → NextSize (take 0 m) m n →
-    Out (record { out = true; code = code; length = length m; at = 0; size = n; resends = 0; copies = 0; failed = false; delivered = false })
-begun_out_by {m} {code} l k = rw k.is (begun_out code m [] l)
+begun_is : {i : Sender} (code : ℕ) {m : List ℕ} {n : ℕ} → Idle false i → NextSize [] m n → begun_from i code m n ≡ begun_control code m
+begun_is code i k = rw (i.is, k.is) refl
 
-pub start_copy : {s n : Sender} {buffer buffer' room room' m : List ℕ} {code : ℕ} {r : Sending} → 257 ≤ length room → length m ≤ 4096 →
-    Sounds s n → n.out ≡ false → Begins n buffer room code m r buffer' room' → Starts s buffer room code m r buffer' room'
+pub begin_copy : {s i : Sender} {buffer part room room' m : List ℕ} {code n : ℕ} {gap : Bool} {r : Sending} → Idle false i → part ≡ m →
+    Due s buffer code m gap → NextSize [] m n → Copies (begun_from i code m n) (part ++ drop (length m) buffer) 0 gap room r room' →
+    Begins s buffer room code m r (part ++ drop (length m) buffer) room'
+unfolding over
+begin_copy {code = code} idle same due k c =
+    record { buffer_is = rw same refl; copies = rw (begun_is code idle k, due.is) at c }
+
+pub begun_out_by : {i : Sender} {m : List ℕ} (code : ℕ) {n : ℕ} → length m ≤ 4096 → Idle false i → NextSize [] m n → Out (begun_from i code m n)
+begun_out_by {m = m} code l i k = rw (begun_is code i k) (begun_out code m [] l)
+
+pub start_copy : {s n : Sender} {buffer buffer' room front part m : List ℕ} {code : ℕ} {r : Sending} → length m ≤ 4096 → Sounds s n → n.out ≡ false →
+    IsFirstChunk room front 257 → length part ≡ 257 → Begins n buffer front code m r buffer' part → Starts s buffer room code m r buffer' (part ++ drop 257 room)
 unfolding started_of start_step some name_of copy_of
-start_copy {s} {n} {buffer} {buffer'} {room} {room'} {m} {code} {r} h l k o b =
+start_copy {s} {n} {buffer} {buffer'} {room} {m = m} {code = code} l k o f wide b =
     let filled = b.buffer_is in
     let w = b.copies.writes in
-    let tests = le-ltb (length room) 257 h in
+    let tests = le-ltb (length room) 257 f.enough in
     let short = le-ltb 4096 (length m) l in
     let rests = state_rests s n buffer k o in
     let step = begins_is n buffer m code (sounds_small k) buffer in
@@ -312,5 +335,5 @@ start_copy {s} {n} {buffer} {buffer'} {room} {room'} {m} {code} {r} h l k o b =
       is = w.is ∙ simp (tests, short, rests, step, filled);
       next = simp (tests, short, rests, step, filled, w.is) (state_out (begun_control code m) (over m buffer) (begun_out code m buffer l));
       buffer_is = filled ∙ simp (tests, short, rests);
-      room_is = w.room_is ∙ simp (tests, short, rests, step, filled);
+      room_is = front_over f _ wide w.room_is ∙ simp (tests, short, rests, step, filled);
     }

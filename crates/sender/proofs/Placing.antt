@@ -1,66 +1,16 @@
--- Which control values are taken, one law for each test; and what the tests say of place, size and counts. Assumes nothing.
+-- Which control values are taken, and what the tests say of place, size and counts. Assumes nothing.
 use Prim.Native.Nat.{ℕ, ◌+◌, ◌-◌, ◌*◌, ◌/◌, ◌≤◌, ◌<◌}
 use mathlib.Core.Path.{◌≡◌, refl, sym, ap, ◌∙◌}
 use mathlib.Core.Bool.{Bool, true, false}
 use native.Mathlib.Omega.{arith}
 use lib.Dec.{eqb, leb}
-use borrow.Author.Tests.{eqb-true, le-leb, lt-leb, leb-true, leb-false}
+use borrow.Author.Tests.{eqb-true, le-leb, leb-true, leb-false}
 use Rattle.words.specs.Lists.{pick, both}
 use Rattle.words.proofs.Lists.{both_left, both_right, never}
-use Rattle.sender.specs.Promises.{idle_control, sized_of, placed_of, counted_of, made_of, sound_of, Idle, Sounds, Sized, Placed, Made, Out}
+use Rattle.sender.specs.Promises.{idle_control, sized_of, placed_of, counted_of, made_of, sound_of, Idle, Sounds, Placed, Made, Out}
 use Rattle.sender.specs.declared.Sender.{Sender}
 
--- ---- the tests
-
-module _ {left size : ℕ} where
-  pub sized_rest : left ≤ 250 → Sized left size (eqb size left)
-  unfolding sized_of
-  sized_rest h = record { is = simp (le-leb left 250 h) }
-
-  pub sized_under : 250 < left → size < 249 → Sized left size false
-  unfolding sized_of
-  sized_under h l = record { is = simp (lt-leb left 250 h, lt-leb 249 size l) }
-
-  pub sized_over : 250 < left → 249 ≤ size → Sized left size (leb size 250)
-  unfolding sized_of
-  sized_over h l = record { is = simp (lt-leb left 250 h, le-leb 249 size l) }
-
-module _ {s : Sender} where
-  pub placed_long : 4096 < s.length → Placed s false
-  unfolding placed_of
-  placed_long h = record { is = simp (lt-leb s.length 4096 h) }
-
-  pub placed_past : s.length ≤ 4096 → s.length < s.at → Placed s false
-  unfolding placed_of
-  placed_past h l = record { is = simp (le-leb s.length 4096 h, lt-leb s.at s.length l) }
-
-  pub placed_sized : {b : Bool} → s.length ≤ 4096 → s.at ≤ s.length → Sized (s.length - s.at) s.size b → Placed s b
-  unfolding placed_of
-  placed_sized h l k = record { is = k.is ∙ simp (le-leb s.length 4096 h, le-leb s.at s.length l) }
-
-  module _ {b : Bool} (placed : Placed s b) where
-    pub made_not : b ≡ false → Made s false
-    unfolding made_of
-    made_not e = record { is = simp (sym placed.is ∙ e) }
-
-    module _ (e : b ≡ true) where
-      pub made_often : s.out ≡ true → 2 < s.resends → Made s false
-      unfolding made_of counted_of
-      made_often o h = record { is = simp (sym placed.is ∙ e, o, lt-leb s.resends 2 h) }
-
-      pub made_counted : s.out ≡ true → s.resends ≤ 2 → Made s (leb s.copies (s.at / 249 * 2 + s.resends))
-      unfolding made_of counted_of
-      made_counted o h = record { is = simp (sym placed.is ∙ e, o, le-leb s.resends 2 h) }
-
-      pub made_kept : s.out ≡ false → s.delivered ≡ true → Made s (leb (s.length - s.at) 250)
-      unfolding made_of
-      made_kept o d = record { is = simp (sym placed.is ∙ e, o, d) }
-
-      pub made_idle : s.out ≡ false → s.delivered ≡ false → Made s false
-      unfolding made_of
-      made_idle o d = record { is = simp (sym placed.is ∙ e, o, d) }
-
--- ---- what they say
+-- ---- what the tests say
 
 -- Of a piece with so many bytes left where it starts.
 record Held (left size : ℕ) : Type 0 where

@@ -17,7 +17,7 @@ use Rattle.packet.specs.Packet.{body_of, marked}
 use Rattle.packet.proofs.Marks.{marked_of}
 use Rattle.sender.specs.Pieces.{next_size, pieces_from, bodies_of}
 use Rattle.sender.specs.Sender.{SenderState, nothing_out, sending, Sent, fails, resends, out_step, sender_step}
-use Rattle.sender.specs.Promises.{idle_control, sized_of, placed_of, made_of, sound_of, piece_of, rest_of, behind_of, last_of, out_of, state_of, going_on, resending, copied_by, delivered_control, control_after, Sounds, Out, Moves, NextSize, present_of}
+use Rattle.sender.specs.Promises.{idle_control, sized_of, placed_of, made_of, sound_of, piece_of, rest_of, behind_of, last_of, out_of, state_of, going_on, resending, copied_by, delivered_control, control_after, Sounds, Out, present_of}
 use Rattle.sender.specs.declared.Sender.{Sender}
 use Rattle.sender.specs.declared.Heard.{Heard}
 use Rattle.sender.specs.declared.Heard.TheVariants.{Ack, Nak, TimeOut, Nothing}
@@ -77,9 +77,6 @@ resending_out : {s : Sender} → Out s → s.resends < 2 → Out (resending s)
 resending_out o h =
     let f = o.few in
     record { out = refl; fits = o.fits; inside = o.inside; small = o.small; sized = o.sized; tries = omega arith; few = omega arith }
-
-pub again_out : {s n : Sender} → Out s → s.resends < 2 → Moves s s.at s.size (s.resends + 1) (s.copies + 1) n → Out n
-again_out o h m = rw m.is (resending_out o h)
 
 -- What is left of a message in the buffer.
 drop_take : (at n : ℕ) (s : List ℕ) → drop at (take n s) ≡ take (n - at) (drop at s)
@@ -149,9 +146,6 @@ module _ (s : Sender) (buffer : List ℕ) (o : Out s) (long : length buffer ≡ 
       let r = length_rest in
       let within = n.inside in
       record { out = refl; fits = o.fits; inside = omega arith; small = n.small; sized = rw r at n.sized; tries = omega arith; few = omega arith }
-
-  pub onward_out : {n : ℕ} {m : Sender} → end < s.length → NextSize (piece_of s buffer) rest n → Moves s end n 0 s.copies m → Out m
-  onward_out h k m = rw (m.is, k.is) (going_out h)
 
 -- ---- the control value that is taken
 

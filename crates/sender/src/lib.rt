@@ -5,6 +5,7 @@ ghost use Rattle.std.specs.Prelude.{◌+◌, ◌≤◌, ◌<◌, ◌≡◌, true
 ghost use Rattle.packet.specs.Opcodes.{decode_data, reader};
 ghost use Rattle.packet.specs.Packet.{body_of};
 ghost use Rattle.packet.specs.Sizes.{packet_size, message_size};
+ghost use Rattle.std.specs.Int.{from_bool};
 ghost use Rattle.sender.specs.Pieces.{piece_size};
 ghost use Rattle.sender.specs.Promises.{Idle, Starts, Hears, Waits, Heeds, NextSize, Sounds, Sized, Placed, Made, Refuses, Moves, Ends, Fails, Due, Out, Fills, Presents, Begins, OutSteps};
 
@@ -19,6 +20,8 @@ const RESEND_LIMIT: usize = 2;
 
 // The sender's control value. `at` is where the present piece starts in the message buffer, `size` how many bytes it has;
 // `resends` counts those of the present packet, `copies` the marked copies of the message.
+// stays: these fields are the exported control bytes, which a call that does not move them gives back as they came, garbage too; `sound`
+// puts them in order where they are read.
 #[derive(Clone, Copy)]
 pub struct Sender {
     pub length: usize,
@@ -35,6 +38,7 @@ pub struct Sender {
 }
 
 // What the sender hears of the host.
+// stays: four things that differ in what follows, of which one carries a byte; an Option or a Result has two cases.
 #[derive(Clone, Copy)]
 pub enum Heard {
     Ack,
@@ -45,6 +49,7 @@ pub enum Heard {
 
 // What a call brought: a copy of so many bytes in the room, with whether a message gap is due before it; or a message's end with
 // the number of its marked copies.
+// stays: five things that a call can come to; of these a refusal alone is an error, and it comes with a control value too.
 #[derive(Clone, Copy)]
 pub enum Outcome {
     Nothing,
@@ -88,29 +93,26 @@ pub fn start(
 ) -> Sending
     ensures { Starts sender buffer.old room.old code message.now result buffer.new room.new }
 {
-    if room.len() < PACKET_SIZE {
+    let Some(packet) = room.first_chunk_mut::<PACKET_SIZE>() else {
         return refused(sender, Refusal::Room);
-    }
-    if MESSAGE_SIZE < message.len() {
-        return refused(sender, Refusal::Start);
-    }
+    };
     let now = sound(sender);
-    if now.out {
+    if MESSAGE_SIZE < message.len() || now.out {
         return refused(sender, Refusal::Start);
     }
-    begin(now, buffer, room, code, message)
+    begin(now, buffer, packet, code, message)
 }
 
 // One thing heard of the host.
 pub fn hear(sender: Sender, buffer: &[u8; MESSAGE_SIZE], room: &mut [u8], heard: Heard) -> Sending
     ensures { Hears sender buffer.now room.old heard result room.new }
 {
-    if room.len() < PACKET_SIZE {
+    let Some(packet) = room.first_chunk_mut::<PACKET_SIZE>() else {
         return refused(sender, Refusal::Room);
-    }
+    };
     let now = sound(sender);
     if now.out {
-        return out_step(now, buffer, room, heard);
+        return out_step(now, buffer, packet, heard);
     }
     Sending {
         sender: now,
@@ -122,53 +124,45 @@ pub fn hear(sender: Sender, buffer: &[u8; MESSAGE_SIZE], room: &mut [u8], heard:
 pub fn waits(sender: Sender) -> bool
     ensures { Waits sender result }
 {
-    let now = sound(sender);
-    now.out
+    sound(sender).out
 }
 
 // What a sender heeds of a packet on the line: an ACK without data or a NAK with one byte, status 0 or 1, of the source that it heeds.
+#[tactic(auto, unfolding(crate::specs::Sender::heed_of))]
 pub fn heed(heeded: u8, opcode: u8, source: u8, status: u8, data: &[u8]) -> Heard
     ensures { Heeds heeded opcode source status «data».now result }
 {
-    if source != heeded {
+    if source != heeded || 1 < status {
         return Heard::Nothing;
     }
-    if status / 2 != 0 {
-        return Heard::Nothing;
+    match (opcode, data) {
+        (packet::CMD_ACK, []) => Heard::Ack,
+        (packet::CMD_NAK, [cause]) => Heard::Nak(*cause),
+        _ => Heard::Nothing,
     }
-    if opcode == packet::CMD_ACK {
-        if data.len() == 0 {
-            return Heard::Ack;
-        }
-        return Heard::Nothing;
-    }
-    if opcode == packet::CMD_NAK {
-        if data.len() == 1 {
-            return Heard::Nak(data[0]);
-        }
-    }
-    Heard::Nothing
 }
 
 // The last packet of the message before stands in the buffer until this one is copied over it.
-fn begin(sender: Sender, buffer: &mut [u8], room: &mut [u8], code: u8, message: &[u8]) -> Sending
-    requires { (sender.at + sender.size ≤ message_size) × (length buffer.old ≡ message_size) × (packet_size ≤ length room.old) × (length message.now ≤ message_size) }
+fn begin(
+    sender: Sender,
+    buffer: &mut [u8; MESSAGE_SIZE],
+    room: &mut [u8; PACKET_SIZE],
+    code: u8,
+    message: &[u8],
+) -> Sending
+    requires { (sender.at + sender.size ≤ message_size) × (length message.now ≤ message_size) }
     ensures { Begins sender buffer.old room.old code message.now result buffer.new room.new }
 {
     let gap = gap_due(sender, buffer, code, message);
-    words::copy(message, buffer);
+    buffer[..message.len()].copy_from_slice(message);
     let next = Sender {
         out: true,
         code,
         length: message.len(),
-        at: 0,
-        size: next_size(&message[..0], message),
-        resends: 0,
-        copies: 0,
-        failed: false,
-        delivered: false,
+        size: next_size(&[], message),
+        ..idle(false)
     };
-    let size = present(next, buffer, room, 0);
+    let size = present(next, buffer, room, false);
     Sending {
         sender: next,
         outcome: Outcome::Copy { size, gap },
@@ -176,21 +170,13 @@ fn begin(sender: Sender, buffer: &mut [u8], room: &mut [u8], code: u8, message: 
 }
 
 // Whether a message gap is due before a message: the one before failed, or its last packet is this message in one piece.
-fn gap_due(sender: Sender, buffer: &[u8], code: u8, message: &[u8]) -> bool
-    requires { (sender.at + sender.size ≤ message_size) × (length buffer.now ≡ message_size) }
+#[tactic(auto, using(crate::proofs::Copying::piece_compared), unfolding(crate::specs::Promises::due_of))]
+fn gap_due(sender: Sender, buffer: &[u8; MESSAGE_SIZE], code: u8, message: &[u8]) -> bool
+    requires { sender.at + sender.size ≤ message_size }
     ensures { Due sender buffer.now code message.now result }
 {
-    if sender.failed {
-        return true;
-    }
-    if sender.delivered {
-        if sender.code == code {
-            let from = sender.at;
-            let end = from + sender.size;
-            return words::same(&buffer[from..end], message);
-        }
-    }
-    false
+    let piece = &buffer[sender.at..sender.at + sender.size];
+    sender.failed || sender.delivered && sender.code == code && piece == message
 }
 
 // How many bytes of the rest the next piece holds, behind the piece before it.
@@ -200,10 +186,8 @@ fn next_size(before: &[u8], rest: &[u8]) -> usize
     if rest.len() <= PIECE_SIZE {
         return rest.len();
     }
-    if words::same(before, &rest[..PIECE_SIZE]) {
-        return CUT_SIZE;
-    }
-    PIECE_SIZE
+    let full = &rest[..PIECE_SIZE];
+    if before == full { CUT_SIZE } else { PIECE_SIZE }
 }
 
 // What is refused changes nothing.
@@ -221,64 +205,63 @@ fn sound(sender: Sender) -> Sender
     ensures { Sounds sender result }
 {
     if made(sender) {
-        return sender;
+        sender
+    } else {
+        idle(sender.failed)
     }
-    idle(sender.failed)
 }
 
 // Whether a run leaves this: a message out, with no more marked copies than its packets can have had, or the last piece of one
 // that was delivered.
+#[tactic(auto, using(crate::proofs::Placing::placed_starts), unfolding(crate::specs::Promises::made_of, crate::specs::Promises::counted_of))]
 fn made(sender: Sender) -> bool
     ensures { Made sender result }
 {
-    if placed(sender) {
-        if sender.out {
-            if sender.resends <= RESEND_LIMIT {
-                return sender.copies <= sender.at / CUT_SIZE * RESEND_LIMIT + sender.resends;
-            }
-            return false;
-        }
-        if sender.delivered {
-            return sender.length - sender.at <= PIECE_SIZE;
-        }
+    if !placed(sender) {
+        return false;
     }
-    false
+    if sender.out {
+        return sender.resends <= RESEND_LIMIT
+            && sender.copies <= sender.at / CUT_SIZE * RESEND_LIMIT + sender.resends;
+    }
+    sender.delivered && sender.length - sender.at <= PIECE_SIZE
 }
 
 // Whether the piece lies within the buffer.
+#[tactic(auto, unfolding(crate::specs::Promises::placed_of))]
 fn placed(sender: Sender) -> bool
     ensures { Placed sender result }
 {
-    if sender.length <= MESSAGE_SIZE {
-        if sender.at <= sender.length {
-            return sized(sender.length - sender.at, sender.size);
-        }
-    }
-    false
+    sender.length <= MESSAGE_SIZE
+        && sender.at <= sender.length
+        && sized(sender.length - sender.at, sender.size)
 }
 
 // Whether a piece can have this size, with so many bytes left of its message.
+#[tactic(auto, unfolding(crate::specs::Promises::sized_of))]
 fn sized(left: usize, size: usize) -> bool
     ensures { Sized left size result }
 {
     if left <= PIECE_SIZE {
         return size == left;
     }
-    if size < CUT_SIZE {
-        return false;
-    }
-    size <= PIECE_SIZE
+    CUT_SIZE <= size && size <= PIECE_SIZE
 }
 
-// One step with a message out.
-fn out_step(sender: Sender, buffer: &[u8], room: &mut [u8], heard: Heard) -> Sending
-    requires { Out sender × (length buffer.now ≡ message_size) × (packet_size ≤ length room.old) }
+// One step with a message out: NAK 1 resends as a time-out does, another cause fails at once.
+fn out_step(
+    sender: Sender,
+    buffer: &[u8; MESSAGE_SIZE],
+    room: &mut [u8; PACKET_SIZE],
+    heard: Heard,
+) -> Sending
+    requires { Out sender }
     ensures { OutSteps sender buffer.now room.old heard result room.new }
 {
     match heard {
         Heard::Ack => onward(sender, buffer, room),
-        Heard::Nak(cause) => denied(sender, buffer, room, cause),
-        Heard::TimeOut => again(sender, buffer, room),
+        Heard::Nak(cause) if cause != 1 => failed(sender),
+        Heard::TimeOut | Heard::Nak(_) => again(sender, buffer, room),
         Heard::Nothing => Sending {
             sender,
             outcome: Outcome::Nothing,
@@ -287,17 +270,20 @@ fn out_step(sender: Sender, buffer: &[u8], room: &mut [u8], heard: Heard) -> Sen
 }
 
 // ACK goes on to the next packet or reports delivered.
-fn onward(sender: Sender, buffer: &[u8], room: &mut [u8]) -> Sending
-    requires { Out sender × (length buffer.now ≡ message_size) × (packet_size ≤ length room.old) }
+fn onward(sender: Sender, buffer: &[u8; MESSAGE_SIZE], room: &mut [u8; PACKET_SIZE]) -> Sending
+    requires { Out sender }
     ensures { OutSteps sender buffer.now room.old Heard.Ack result room.new }
 {
-    let from = sender.at;
-    let end = from + sender.size;
-    let whole = sender.length;
-    if end < whole {
-        let size = next_size(&buffer[from..end], &buffer[end..whole]);
-        let next = moved(sender, end, size, 0, sender.copies);
-        let size = present(next, buffer, room, 0);
+    let end = sender.at + sender.size;
+    if end < sender.length {
+        let size = next_size(&buffer[sender.at..end], &buffer[end..sender.length]);
+        let next = Sender {
+            at: end,
+            size,
+            resends: 0,
+            ..moved(sender)
+        };
+        let size = present(next, buffer, room, false);
         return Sending {
             sender: next,
             outcome: Outcome::Copy { size, gap: false },
@@ -306,31 +292,18 @@ fn onward(sender: Sender, buffer: &[u8], room: &mut [u8]) -> Sending
     ended(sender)
 }
 
-// NAK 1 resends, another cause fails at once.
-fn denied(sender: Sender, buffer: &[u8], room: &mut [u8], cause: u8) -> Sending
-    requires { Out sender × (length buffer.now ≡ message_size) × (packet_size ≤ length room.old) }
-    ensures { OutSteps sender buffer.now room.old (Heard.Nak cause) result room.new }
-{
-    if cause == 1 {
-        return again(sender, buffer, room);
-    }
-    failed(sender)
-}
-
 // The present packet again, with bit 0 set, as often as it may be; then failed.
-fn again(sender: Sender, buffer: &[u8], room: &mut [u8]) -> Sending
-    requires { Out sender × (length buffer.now ≡ message_size) × (packet_size ≤ length room.old) }
+fn again(sender: Sender, buffer: &[u8; MESSAGE_SIZE], room: &mut [u8; PACKET_SIZE]) -> Sending
+    requires { Out sender }
     ensures { OutSteps sender buffer.now room.old Heard.TimeOut result room.new }
 {
     if sender.resends < RESEND_LIMIT {
-        let next = moved(
-            sender,
-            sender.at,
-            sender.size,
-            sender.resends + 1,
-            sender.copies + 1,
-        );
-        let size = present(next, buffer, room, 1);
+        let next = Sender {
+            resends: sender.resends + 1,
+            copies: sender.copies + 1,
+            ..moved(sender)
+        };
+        let size = present(next, buffer, room, true);
         return Sending {
             sender: next,
             outcome: Outcome::Copy { size, gap: false },
@@ -339,20 +312,15 @@ fn again(sender: Sender, buffer: &[u8], room: &mut [u8]) -> Sending
     failed(sender)
 }
 
-// The same message with this piece as its present one.
-fn moved(sender: Sender, at: usize, size: usize, resends: usize, copies: usize) -> Sender
-    ensures { Moves sender at size resends copies result }
+// The message that is out, with nothing kept of the one before.
+fn moved(sender: Sender) -> Sender
+    requires { Out sender }
+    ensures { Moves sender sender.at sender.size sender.resends sender.copies result }
 {
     Sender {
-        out: true,
-        code: sender.code,
-        length: sender.length,
-        at,
-        size,
-        resends,
-        copies,
         failed: false,
         delivered: false,
+        ..sender
     }
 }
 
@@ -363,14 +331,11 @@ fn ended(sender: Sender) -> Sending
     Sending {
         sender: Sender {
             out: false,
-            code: sender.code,
-            length: sender.length,
-            at: sender.at,
-            size: sender.size,
             resends: 0,
             copies: 0,
             failed: false,
             delivered: true,
+            ..sender
         },
         outcome: Outcome::Delivered(sender.copies),
     }
@@ -386,25 +351,27 @@ fn failed(sender: Sender) -> Sending
 }
 
 // A copy of the present packet, marked or not, and its size. It gives no sender back, so that none is moved for it.
-fn present(sender: Sender, buffer: &[u8], room: &mut [u8], mark: u8) -> usize
-    requires { Out sender × (length buffer.now ≡ message_size) × (packet_size ≤ length room.old) × (mark < 2) }
-    ensures { Presents sender buffer.now mark room.old result room.new }
+fn present(
+    sender: Sender,
+    buffer: &[u8; MESSAGE_SIZE],
+    room: &mut [u8; PACKET_SIZE],
+    marked: bool,
+) -> usize
+    requires { Out sender }
+    ensures { Presents sender buffer.now (from_bool marked) room.old result room.new }
 {
-    let from = sender.at;
-    let end = from + sender.size;
-    if end < sender.length {
-        return copy(sender.code, &buffer[from..end], room, mark + 2);
-    }
-    copy(sender.code, &buffer[from..end], room, mark)
+    let end = sender.at + sender.size;
+    let status = u8::from(end < sender.length) * 2 + u8::from(marked);
+    copy(sender.code, &buffer[sender.at..end], room, status)
 }
 
 // The type and the piece go into the room from the fifth byte on, then header and checksum around them.
-fn copy(code: u8, piece: &[u8], room: &mut [u8], status: u8) -> usize
-    requires { (length piece.now ≤ piece_size) × (packet_size ≤ length room.old) × (status < 4) }
+fn copy(code: u8, piece: &[u8], room: &mut [u8; PACKET_SIZE], status: u8) -> usize
+    requires { (length piece.now ≤ piece_size) × (status < 4) }
     ensures { Fills (body_of decode_data reader status (code ∷ piece.now)) room.old result room.new }
 {
-    room[4] = code;
-    words::copy(piece, &mut room[5..]);
     let count = piece.len() + 1;
+    room[4] = code;
+    room[5..4 + count].copy_from_slice(piece);
     packet::size_of(packet::fill(room, DECODE_DATA, READER, status, count))
 }

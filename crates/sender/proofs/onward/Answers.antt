@@ -5,10 +5,10 @@ use Rattle.sender.proofs.Copying.{copies_as}
 use Rattle.sender.proofs.onward.Goals as goal
 
 pub present-size-requires : goal.present-size-requires
-present-size-requires c = (going_out_by c.args.buffer.now c.requires.0 (omega arith) (omega arith) c.next_size-size.ensures c.moved-next.ensures, omega arith, omega arith, omega arith)
+present-size-requires c = going_out_by c.args.buffer.now c.requires c.told-buffer (omega arith) c.next_size-size.ensures c.moved.ensures
 
-pub returns-then-end-whole : goal.returns-then-end-whole
-returns-then-end-whole c = onward_next c.requires.0 (omega arith) (omega arith) c.next_size-size.ensures c.moved-next.ensures (copies_as c.present-size.ensures)
+pub returns-then-end-sender : goal.returns-then-end-sender
+returns-then-end-sender c = onward_next c.requires c.told-buffer (omega arith) c.next_size-size.ensures c.moved.ensures (copies_as c.present-size.ensures)
 
 pub returns : goal.returns
-returns c = onward_delivered c.requires.0 (omega arith) (omega arith) c.ended.ensures
+returns c = onward_delivered c.requires c.told-buffer (omega arith) c.ended.ensures

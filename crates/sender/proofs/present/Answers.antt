@@ -1,10 +1,6 @@
--- `sender::present` meets its contract: with the more bit, or the last one. Assumes nothing.
-use native.Mathlib.Omega.{arith}
-use Rattle.sender.proofs.Copying.{present_more, present_last}
+-- `sender::present` meets its contract: the more bit and the mark are its status. Assumes nothing.
+use Rattle.sender.proofs.Copying.{present_as}
 use Rattle.sender.proofs.present.Goals as goal
 
-pub returns-then-end-sender : goal.returns-then-end-sender
-returns-then-end-sender c = present_more (omega arith) c.copy.ensures
-
 pub returns : goal.returns
-returns c = present_last (omega arith) c.copy-2.ensures
+returns c = present_as _ c.from.ensures c.from-2.ensures c.copy.ensures

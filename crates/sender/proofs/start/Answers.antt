@@ -1,16 +1,26 @@
 -- `sender::start` meets its contract: 13, then 11, then the message is begun. Assumes nothing.
+use Prim.Native.Nat.{ℕ}
+use mathlib.Core.Path.{◌≡◌}
 use native.Mathlib.Omega.{arith}
+use lib.ListN.{length, length-append, length-drop}
 use Rattle.sender.proofs.Answering.{start_room, start_long, start_waits, start_copy}
 use Rattle.sender.proofs.start.Goals as goal
+use Rattle.sender.proofs.start.Goals.{then-message-gt-MESSAGE_SIZE-via-then-message-gt-MESSAGE_SIZE, then-message-gt-MESSAGE_SIZE-via-else-message-gt-MESSAGE_SIZE+then-now}
 
-pub returns-then-room-lt-PACKET_SIZE : goal.returns-then-room-lt-PACKET_SIZE
-returns-then-room-lt-PACKET_SIZE c = start_room (omega arith) c.refused.ensures
+pub returns-in_default : goal.returns-in_default
+returns-in_default c = start_room c.in_default.ensures.cases c.refused.ensures
 
 pub returns-then-message-gt-MESSAGE_SIZE : goal.returns-then-message-gt-MESSAGE_SIZE
-returns-then-message-gt-MESSAGE_SIZE c = start_long (omega arith) (omega arith) c.refused-then-message-gt-MESSAGE_SIZE.ensures
-
-pub returns-then-now : goal.returns-then-now
-returns-then-now c = start_waits (omega arith) (omega arith) c.sound-now.ensures c.if-now.true c.refused-then-now.ensures
+returns-then-message-gt-MESSAGE_SIZE c =
+    let front = c.in-Some.ensures.cases in
+    let refused = c.refused-then-message-gt-MESSAGE_SIZE.ensures in
+    elim c.then-message-gt-MESSAGE_SIZE.branch [
+      | then-message-gt-MESSAGE_SIZE-via-then-message-gt-MESSAGE_SIZE w ↦ rw w.room-is (start_long front refused w.if-message-gt-MESSAGE_SIZE.true)
+      | then-message-gt-MESSAGE_SIZE-via-else-message-gt-MESSAGE_SIZE+then-now w ↦ rw w.room-is (start_waits front refused w.if-message-gt-MESSAGE_SIZE.false c.sound-now.ensures w.if-now.true)
+    ]
 
 pub returns : goal.returns
-returns c = start_copy (omega arith) (omega arith) c.sound-now.ensures c.if-now.false c.begin.ensures
+returns c =
+    let front = c.in-Some.ensures.cases in
+    let wide : length c.begin.new.room ≡ 257 = omega (arith, length-append {A = ℕ}, length-drop {A = ℕ}) in
+    start_copy c.if-message-gt-MESSAGE_SIZE.false c.sound-now.ensures c.if-now.false front wide c.begin.ensures

@@ -3,4 +3,4 @@ use Rattle.sender.proofs.Answering.{waits_is}
 use Rattle.sender.proofs.waits.Goals as goal
 
 pub returns : goal.returns
-returns c = waits_is c.sound-now.ensures
+returns c = waits_is c.sound.ensures
