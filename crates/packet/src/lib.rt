@@ -112,6 +112,7 @@ pub fn number(refusal: Refusal) -> u8
 }
 
 // The cause of the NAK that answers it; 0 where nothing goes out.
+// stays: a number, with 0 for none, is what the table of refusals has in its column of causes.
 pub fn cause(refusal: Refusal) -> u8
     ensures { Cause refusal result }
 {
@@ -177,7 +178,7 @@ pub fn data_part(s: &[u8]) -> &[u8]
     ensures { DataPart s.now result.now }
 {
     if s.len() < HEAD_SIZE {
-        return &s[..0];
+        return &[];
     }
     let end = wide(s[0]).clamp(HEAD_SIZE, s.len());
     &s[HEAD_SIZE..end]
@@ -203,6 +204,7 @@ pub fn source_allowed(source: u8) -> bool
 }
 
 // What building says of a packet's fields.
+// stays: opcode, source and status one by one, here and below: they come so from the calls for C, and a struct would be made at each call only to be taken apart.
 #[tactic(auto, unfolding(crate::specs::Packet::fields_of))]
 fn fields(opcode: u8, source: u8, status: u8, n: usize) -> Result<usize, Refusal>
     ensures { Fields opcode source status n result }
@@ -281,6 +283,7 @@ fn put(room: &mut [u8], opcode: u8, source: u8, status: u8, data: &[u8]) -> Resu
 }
 
 // How many bytes were written; none where it was refused.
+// stays: 0 for none, since the calls for C give a size beside their number, also where they refuse.
 pub fn size_of(built: Result<usize, Refusal>) -> usize
     ensures { SizeOf built result }
 {
