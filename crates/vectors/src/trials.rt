@@ -1,5 +1,5 @@
-// What is tried with a vector: the check, building, damage, and the answers. A refusal that is due is its number in the rules' table,
-// and None is a packet.
+// What is tried with a vector: the check, building, damage, and the answers.
+// stays: a refusal that is due is its number in the rules' table, so that no name of the library can be wrong on both sides; None is a packet.
 ghost use Rattle.std.specs.Prelude.{◌<◌, ◌≤◌, length};
 
 use crate::tally::{Tally, count, hex};
@@ -13,7 +13,7 @@ pub(crate) struct Fields {
     pub status: u8,
 }
 
-// A packet that the check finds with these fields and n bytes of data and that building gives again; then it is damaged.
+// A packet that the check finds with these fields and n bytes of data and that building gives again.
 pub(crate) fn worked(
     rt: &impl Print,
     t: &mut Tally,
@@ -28,9 +28,7 @@ pub(crate) fn worked(
         source,
         status,
     };
-    checked(rt, t, bytes, fields, n);
-    built(rt, t, bytes, fields, None, bytes);
-    damaged(rt, t, bytes);
+    tried(rt, t, bytes, fields, n, None, bytes);
 }
 
 // The same with a status that isn't allowed: the check doesn't judge it, building refuses it with 5.
@@ -48,8 +46,21 @@ pub(crate) fn unbuilt(
         source,
         status,
     };
+    tried(rt, t, bytes, fields, n, Some(5), b"");
+}
+
+// The packet is checked and built again, and then it is damaged.
+fn tried(
+    rt: &impl Print,
+    t: &mut Tally,
+    bytes: &[u8],
+    fields: Fields,
+    n: usize,
+    due: Option<u8>,
+    written: &[u8],
+) {
     checked(rt, t, bytes, fields, n);
-    built(rt, t, bytes, fields, Some(5), b"");
+    built(rt, t, bytes, fields, due, written);
     damaged(rt, t, bytes);
 }
 
