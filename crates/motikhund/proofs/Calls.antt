@@ -55,7 +55,7 @@ use Rattle.reader.specs.declared.Started.{Started}
 use Rattle.reader.specs.declared.Loaded.{Loaded}
 use Rattle.reader.proofs.Loading as loading
 use Rattle.motikhund.specs.Lent.{Need, at_least, Lacking, here, there, Enough, none, more, Asks, IfNamed, KeptUnless, Kept, Made}
-use Rattle.motikhund.specs.Control.{sender_control_size, reader_control_size, number_in, number_bytes, flag_in, framer_in, framer_bytes, hub_in, hub_bytes, sender_in, sender_bytes, reader_in, reader_bytes, FramerIn, PutsNumber, PutsFramer, HubIn, PutsHub, SenderIn, PutsSender, ReaderIn, PutsReader, FlagByte, Switches, PermanentChanged}
+use Rattle.motikhund.specs.Control.{sender_control_size, reader_control_size, number_in, number_bytes, flag_in, flag_byte, framer_in, framer_bytes, hub_in, hub_bytes, sender_in, sender_bytes, reader_in, reader_bytes, FramerIn, PutsNumber, PutsFramer, HubIn, PutsHub, SenderIn, PutsSender, ReaderIn, PutsReader, Switches, PermanentChanged}
 use Rattle.motikhund.specs.Numbers.{is_event, is_reply, no_head, EventOf, HeardOf, HeardNumber, ReplyOf, CheckedNumber, CheckedValues, FoundNumber, FoundValues, BuiltNumber, HubNumber, HubValues, OutcomeNumber, OutcomeValue, StartValues, is_refused, OutcomeRefused, waits_number, ReaderNumber, ReaderValues, verdict_number, is_unread, WrittenNumber, WrittenSize, VerdictNumber, Unread, settled_number}
 use Rattle.motikhund.specs.Promises.{PacketChecks, PacketBuilds, PacketAnswers, FramerHears, GoesOn, HubHears, HubTakesBlock, HubHearsBlock, Brings, Begins, SenderStarts, SenderHears, SenderWaits, SenderHeeds, FreshReader, ReaderStarts, ReaderTimesOut, ReaderHears, ReaderValue, ReaderLocked, ReaderSaves, ReaderLoads, ReaderSwitches}
 use Rattle.motikhund.proofs.Reading.{number_back, framer_back, hub_back, sender_back, reader_back}
@@ -433,10 +433,10 @@ reader_switches c before-is switches = record { asks = asks_enough (more c none)
 pub locked_13 : {control : List ℕ} {number : ℕ} → Lacking (at_least reader_control_size control ∷ []) → ReaderLocked control number 13 0
 locked_13 k = record { asks = asks_13 k (refl, refl) }
 
-pub reader_locked : {control : List ℕ} {number flag value : ℕ} {held : Bool} {before : Reader} → reader_control_size ≤ length control → ReaderIn control before →
-    settings.Locked before.device.table number held → FlagByte held flag → Wide flag value → ReaderLocked control number 0 value
-reader_locked {held = held} c before-is locked flag wide =
-    record { asks = asks_enough (more c none) (record { held = held; locked = rw before-is.is at locked; value_is = wide.is ∙ flag.is; told = refl }) }
+pub reader_locked : {control : List ℕ} {number value : ℕ} {held : Bool} {before : Reader} → reader_control_size ≤ length control → ReaderIn control before →
+    settings.Locked before.device.table number held → value ≡ flag_byte held → ReaderLocked control number 0 value
+reader_locked {held = held} c before-is locked value =
+    record { asks = asks_enough (more c none) (record { held = held; locked = rw before-is.is at locked; value_is = value; told = refl }) }
 
 pub save_13 : {control room : List ℕ} → Lacking (at_least reader_control_size control ∷ []) → ReaderSaves control room 13 room 0
 save_13 k = record { asks = asks_13 k (refl, refl, refl) }

@@ -1,15 +1,16 @@
 -- What the code reads of a control value's bytes; and a control value that was written reads as itself. Assumes nothing.
-use Prim.Native.Nat.{ℕ, ◌+◌, ◌-◌, ◌*◌, ◌/◌, ◌%◌, ◌<◌, ◌≤◌}
+use Prim.Native.Nat.{ℕ, zero, suc, ◌+◌, ◌-◌, ◌*◌, ◌/◌, ◌%◌, ◌<◌, ◌≤◌}
 use mathlib.Core.Path.{◌≡◌, refl, sym, ap, ◌∙◌}
 use mathlib.Core.Bool.{Bool, true, false, not}
-use mathlib.Core.List.{List, [], ◌∷◌, ◌++◌, append_assoc}
+use mathlib.Core.List.{List, [], ◌∷◌, ◌++◌, map, append_assoc}
 use native.Mathlib.Omega.{arith}
 use lib.Dec.{eqb}
 use lib.ListN.{length, get_or, take, drop, length-append, length-take, length-drop}
 use lib.Seq.{take_at, drop_at, drop-drop, get_or-take, get_or-drop, get_or-append-add}
-use Rattle.words.specs.Lists.{Wide, Compared}
+use Rattle.std.specs.Int.{w64, from_le_bytes}
+use Rattle.std.proofs.lemmas.Nat.{from_le_bytes-to_le_bytes_8}
+use Rattle.words.specs.Lists.{same_bytes}
 use Rattle.words.proofs.Lists.{rest_part}
-use Rattle.words.proofs.Loops.{Alike, alike_none, alike_more, alike_stop, alike_all}
 use Rattle.framer.specs.declared.Framer.{Framer}
 use Rattle.framer.specs.declared.Halves.{Halves}
 use Rattle.hub.specs.declared.Gathering.{Gathering}
@@ -19,22 +20,25 @@ use Rattle.table.specs.declared.Table.{Table}
 use Rattle.commands.specs.declared.Device.{Device}
 use Rattle.reader.specs.declared.Reader.{Reader}
 use Rattle.motikhund.proofs.Storing.{number_long, halves_long, flags_long, table_long, device_long}
-use Rattle.motikhund.specs.Control.{reader_control_size, half_in, half_bytes, number_in, number_bytes, Small, flag_in, flag_byte, flags_in, flag_bytes, framer_in, framer_bytes, halves_in, halves_bytes, gathering_in, gathering_bytes, hub_in, hub_bytes, sender_in, sender_bytes, table_in, table_bytes, device_in, device_bytes, reader_in, reader_bytes, SmallHalves, SmallHub, SmallSender, SizedTable, SmallReader, HalfIn, NumberIn, FramerIn, HalvesIn, GatheringIn, HubIn, SenderIn, ValuesIn, LocksIn, TableIn, DeviceIn, ReaderIn, permanent_changed, PermanentChanged}
+use Rattle.motikhund.specs.Control.{number_in, number_bytes, Small, flag_in, flag_byte, flags_in, flag_bytes, framer_in, framer_bytes, halves_in, halves_bytes, gathering_in, gathering_bytes, hub_in, hub_bytes, sender_in, sender_bytes, table_in, table_bytes, device_in, device_bytes, reader_in, reader_bytes, SmallHalves, SmallHub, SmallSender, SizedTable, SmallReader, PartOf, NumberIn, FramerIn, HalvesIn, GatheringIn, HubIn, SenderIn, LocksIn, TableIn, DeviceIn, ReaderIn, permanent_changed, PermanentChanged}
 
 -- ---- what the code reads
-
-pub half_in_lem : {s : List ℕ} {a b c d : ℕ} → Wide (get_or s 0 0) a → Wide (get_or s 1 0) b → Wide (get_or s 2 0) c → Wide (get_or s 3 0) d →
-    HalfIn s (a + b * 256 + (c + d * 256) * 65536)
-unfolding half_in
-half_in_lem p q r t = record { is = rw (p.is, q.is, r.is, t.is) refl; small = omega arith }
 
 -- From a place on.
 abbrev from : ℕ → List ℕ → List ℕ
 from a s = take (length s - a) (drop a s)
 
-pub number_in_lem : {s : List ℕ} {a b : ℕ} → HalfIn s a → HalfIn (from 4 s) b → NumberIn s (a + b * 4294967296)
+-- A front of them is read as they are.
+number_of_front : (n : ℕ) (s : List ℕ) → 8 ≤ n → number_in (take n s) ≡ number_in s
 unfolding number_in
-number_in_lem {s} low high = record { is = rw (low.is, high.is, rest_part 4 s) refl }
+number_of_front n s h =
+    rw
+    (get_or-take n s 0 0 (omega arith), get_or-take n s 1 0 (omega arith), get_or-take n s 2 0 (omega arith), get_or-take n s 3 0 (omega arith), get_or-take n s 4 0 (omega arith), get_or-take n s 5 0 (omega arith), get_or-take n s 6 0 (omega arith), get_or-take n s 7 0 (omega arith))
+    refl
+
+pub number_in_lem : {s p : List ℕ} {n : ℕ} → PartOf 8 s p → n ≡ from_le_bytes w64 p → NumberIn s n
+unfolding number_in
+number_in_lem {s} {p} {n} k e = record { is = (e ∙ ap number_in k.is) ∙ number_of_front 8 s (omega arith) }
 
 pub framer_in_lem : {s : List ℕ} {n : ℕ} → NumberIn s n → FramerIn s (record { count = n; deaf = flag_in s 8 })
 unfolding framer_in
@@ -65,23 +69,10 @@ sender_in_lem {s} p q r t u =
           refl;
     }
 
-pub values_in_lem : {s : List ℕ} → 9 ≤ length s → ValuesIn s (get_or s 0 0 ∷ get_or s 1 0 ∷ get_or s 2 0 ∷ get_or s 3 0 ∷ get_or s 4 0 ∷ get_or s 5 0 ∷ get_or s 6 0 ∷ get_or s 7 0 ∷ get_or s 8 0 ∷ [])
-values_in_lem {s = []} h = absurd (omega arith)
-values_in_lem {s = u ∷ []} h = absurd (omega arith)
-values_in_lem {s = u ∷ v ∷ []} h = absurd (omega arith)
-values_in_lem {s = u ∷ v ∷ w ∷ []} h = absurd (omega arith)
-values_in_lem {s = u ∷ v ∷ w ∷ x ∷ []} h = absurd (omega arith)
-values_in_lem {s = u ∷ v ∷ w ∷ x ∷ y ∷ []} h = absurd (omega arith)
-values_in_lem {s = u ∷ v ∷ w ∷ x ∷ y ∷ z ∷ []} h = absurd (omega arith)
-values_in_lem {s = u ∷ v ∷ w ∷ x ∷ y ∷ z ∷ k ∷ []} h = absurd (omega arith)
-values_in_lem {s = u ∷ v ∷ w ∷ x ∷ y ∷ z ∷ k ∷ m ∷ []} h = absurd (omega arith)
-values_in_lem {s = u ∷ v ∷ w ∷ x ∷ y ∷ z ∷ k ∷ m ∷ n ∷ s} h = record { is = refl }
+pub locks_in_lem : {s p : List ℕ} {r : List Bool} → PartOf 9 s p → r ≡ flags_in p → LocksIn s r
+locks_in_lem k e = record { is = e ∙ ap flags_in k.is }
 
-pub locks_in_lem : {s : List ℕ} → 9 ≤ length s →
-    LocksIn s (flag_in s 0 ∷ flag_in s 1 ∷ flag_in s 2 ∷ flag_in s 3 ∷ flag_in s 4 ∷ flag_in s 5 ∷ flag_in s 6 ∷ flag_in s 7 ∷ flag_in s 8 ∷ [])
-locks_in_lem {s} h = record { is = ap flags_in (values_in_lem {s = s} h).is }
-
-pub table_in_lem : {s a b : List ℕ} {c : List Bool} → ValuesIn s a → ValuesIn (from 9 s) b → LocksIn (from 18 s) c → TableIn s (record { present = a; permanent = b; locked = c })
+pub table_in_lem : {s a b : List ℕ} {c : List Bool} → PartOf 9 s a → PartOf 9 (from 9 s) b → LocksIn (from 18 s) c → TableIn s (record { present = a; permanent = b; locked = c })
 unfolding table_in
 table_in_lem {s} k l m = record { is = rw (k.is, l.is, m.is, rest_part 9 s, rest_part 18 s) refl }
 
@@ -95,45 +86,48 @@ pub reader_in_lem : {s : List ℕ} {h : Halves} {n : ℕ} {d : Device} {t : Send
 unfolding reader_in
 reader_in_lem {s} p q r t = record { is = rw (p.is, q.is, r.is, t.is, rest_part 18 s, rest_part 26 s, rest_part 57 s) refl }
 
+-- A list whose elements are those of another one, each through the same function.
+pub mapped : {A B : Type 0} (f : A → B) (d : A) (e : B) (n : ℕ) (xs : List A) (ys : List B) → length xs ≡ n → length ys ≡ n →
+    ((i : ℕ) → i < n → get_or ys i e ≡ f (get_or xs i d)) → ys ≡ map f xs
+mapped f d e n [] [] h l k = refl
+mapped f d e n [] (y ∷ ys) h l k = absurd (omega arith)
+mapped f d e n (x ∷ xs) [] h l k = absurd (omega arith)
+mapped f d e zero (x ∷ xs) (y ∷ ys) h l k = absurd (omega arith)
+mapped f d e (suc n) (x ∷ xs) (y ∷ ys) h l k =
+    let first = k 0 (omega arith) in
+    let rest = mapped f d e n xs ys (omega arith) (omega arith) (λ i q. k (suc i) (omega arith)) in
+    cc
+
 -- ---- what was written reads as itself
 
-pair_back : (n : ℕ) → n % 256 + n / 256 % 256 * 256 ≡ n % 65536
-pair_back n = omega arith
-
-half_back : (n : ℕ) (rest : List ℕ) → half_in (half_bytes n ++ rest) ≡ n % 4294967296
-unfolding half_in half_bytes
-half_back n rest =
-    let e : n / 16777216 ≡ n / 65536 / 256 = omega arith in
-    rw (e, pair_back n, pair_back (n / 65536)) (omega arith)
-
 pub number_back : (n : ℕ) (rest : List ℕ) → Small n → number_in (number_bytes n ++ rest) ≡ n
-unfolding half_bytes number_in number_bytes
-number_back n rest h = rw (half_back n (half_bytes (n / 4294967296) ++ rest), half_back (n / 4294967296) rest) (omega arith)
+unfolding number_in number_bytes
+number_back n rest h = from_le_bytes-to_le_bytes_8 n h
 
 flag_back : (b : Bool) → eqb (flag_byte b) 1 ≡ b
 flag_back true = refl
 flag_back false = refl
 
 pub framer_back : (f : Framer) (rest : List ℕ) → Small f.count → framer_in (framer_bytes f ++ rest) ≡ f
-unfolding half_bytes number_bytes framer_in framer_bytes
+unfolding number_bytes framer_in framer_bytes
 framer_back f rest h = rw (number_back f.count (flag_byte f.deaf ∷ rest) h, flag_back f.deaf) refl
 
 pub halves_back : (h : Halves) (rest : List ℕ) → SmallHalves h → halves_in (halves_bytes h ++ rest) ≡ h
-unfolding half_bytes number_bytes framer_bytes halves_in halves_bytes
+unfolding number_bytes framer_bytes halves_in halves_bytes
 halves_back h rest k =
     rw (framer_back h.framer (flag_byte h.second ∷ (number_bytes h.last ++ rest)) k.count, flag_back h.second, number_back h.last rest k.last) refl
 
 gathering_back : (g : Gathering) (rest : List ℕ) → Small g.count → gathering_in (gathering_bytes g ++ rest) ≡ g
-unfolding half_bytes number_bytes gathering_in gathering_bytes
+unfolding number_bytes gathering_in gathering_bytes
 gathering_back g rest k = rw (flag_back g.barred, flag_back g.begun, number_back g.count rest k) refl
 
 pub hub_back : (h : Hub) (rest : List ℕ) → SmallHub h → hub_in (hub_bytes h ++ rest) ≡ h
-unfolding half_bytes number_bytes framer_bytes halves_bytes gathering_bytes hub_in hub_bytes
+unfolding number_bytes framer_bytes halves_bytes gathering_bytes hub_in hub_bytes
 hub_back h rest k =
     rw (halves_back h.line (gathering_bytes h.gathering ++ rest) k.line, gathering_back h.gathering rest k.count) refl
 
 pub sender_back : (s : Sender) (rest : List ℕ) → SmallSender s → sender_in (sender_bytes s ++ rest) ≡ s
-unfolding half_bytes number_bytes sender_in sender_bytes
+unfolding number_bytes sender_in sender_bytes
 sender_back s rest k =
     let e = number_bytes s.copies ++ rest in
     let d = number_bytes s.resends ++ e in
@@ -200,30 +194,8 @@ permanent_in : (s : List ℕ) → (reader_in s).device.table.permanent ≡ take 
 unfolding reader_in device_in table_in
 permanent_in s = rw (drop-drop 9 26 s) refl
 
--- The first i values are those that stand in the bytes, so the comparison is that of the rest.
-pub record Staying (s permanent : List ℕ) (i : ℕ) : Type 0 where
-  pub long : reader_control_size ≤ length s
-  pub alike : Alike (take 9 (drop 35 s)) permanent i
-
-nine_of : (s : List ℕ) → reader_control_size ≤ length s → length (take 9 (drop 35 s)) ≡ 9
-nine_of s h = simp (length-take, length-drop) (omega arith)
-
-at_35 : (s : List ℕ) (i : ℕ) → i < 9 → get_or (take 9 (drop 35 s)) i 0 ≡ get_or s (35 + i) 0
-at_35 s i h = get_or-take 9 (drop 35 s) i 0 h ∙ get_or-drop 35 s i 0
-
-pub staying_none : {s permanent : List ℕ} → reader_control_size ≤ length s → length permanent ≡ 9 → Staying s permanent 0
-staying_none {s} h e = record { long = h; alike = alike_none (nine_of s h ∙ sym e) }
-
-pub staying_more : {s permanent : List ℕ} {i : ℕ} → Staying s permanent i → i < 9 → get_or s (35 + i) 0 ≡ get_or permanent i 0 → Staying s permanent (i + 1)
-staying_more {s} {i = i} k m e = let l = nine_of s k.long in record { long = k.long; alike = alike_more k.alike (omega arith) (at_35 s i m ∙ e) }
-
-compared_changed : (s : List ℕ) (after : Reader) (r : Bool) → Compared (take 9 (drop 35 s)) after.device.table.permanent r → PermanentChanged s after (not r)
+pub permanent_changed_lem : {s p : List ℕ} {after : Reader} {r : Bool} → PartOf 9 (from 35 s) p → r ≡ not (same_bytes p after.device.table.permanent) → PermanentChanged s after r
 unfolding permanent_changed
-compared_changed s after r k = record { is = rw (permanent_in s) (ap not k.is) }
-
-module _ {s : List ℕ} {after : Reader} {i : ℕ} (k : Staying s after.device.table.permanent i) where
-  pub staying_stop : i < 9 → (get_or s (35 + i) 0 ≡ get_or after.device.table.permanent i 0 → ⊥) → PermanentChanged s after true
-  staying_stop m n = let l = nine_of s k.long in compared_changed s after false (alike_stop k.alike (omega arith) (λ e. n (sym (at_35 s i m) ∙ e)))
-
-  pub staying_all : 9 ≤ i → PermanentChanged s after false
-  staying_all m = let l = nine_of s k.long in compared_changed s after true (alike_all k.alike (omega arith))
+permanent_changed_lem {s} {p} {after} k e =
+    let same : p ≡ (reader_in s).device.table.permanent = k.is ∙ (rw (rest_part 35 s) refl ∙ sym (permanent_in s)) in
+    record { is = e ∙ ap (λ (q : List ℕ). not (same_bytes q after.device.table.permanent)) same }

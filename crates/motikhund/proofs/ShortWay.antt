@@ -30,7 +30,7 @@ use Rattle.hub.proofs.ShortWay as joining-short
 use Rattle.reader.specs.Reader.{reader_answer_size}
 use Rattle.reader.specs.declared.Taken.{Taken as Commanded}
 use Rattle.reader.proofs.ShortWay as reading-short
-use Rattle.motikhund.specs.Control.{going_size, hub_control_size, reader_control_size, number_bytes, number_in, half_in, flag_in, framer_in, framer_bytes, halves_in, hub_in, reader_in, permanent_changed}
+use Rattle.motikhund.specs.Control.{going_size, hub_control_size, reader_control_size, number_bytes, number_in, flag_in, framer_in, framer_bytes, halves_in, hub_in, reader_in, permanent_changed}
 use Rattle.motikhund.specs.Lent.{Need, at_least, Enough, more}
 use Rattle.motikhund.specs.Numbers.{is_event, event_of, hub_number, hub_values, reader_number, reader_values}
 use Rattle.motikhund.specs.Promises.{went_on, FrontAfter, GoesOn, HubHears, ReaderHears}
@@ -90,7 +90,7 @@ woken_next false false m e = never (cc)
 
 -- What is read of it is read of it alone.
 front_reads : (p rest : List ℕ) → length p ≡ 10 → (framer_in (p ++ rest) ≡ framer_in p) × (flag_in (p ++ rest) 9 ≡ flag_in p 9)
-unfolding half_in number_in framer_in
+unfolding number_in framer_in
 front_reads [] rest e = absurd (omega arith)
 front_reads (a ∷ []) rest e = absurd (omega arith)
 front_reads (a ∷ b ∷ []) rest e = absurd (omega arith)

@@ -5,9 +5,9 @@ use mathlib.Core.Bool.{Bool, false}
 use mathlib.Core.List.{List, [], ◌∷◌, ◌++◌, append_assoc}
 use native.Mathlib.Omega.{arith}
 use lib.ListN.{length, get_or, take, drop, set, length-append, length-take, length-drop}
-use Rattle.words.specs.Lists.{over, Over, Copied}
-use Rattle.words.proofs.Lists.{back, behind, length_over, copied_over}
-use Rattle.words.proofs.Loops.{Copying, copied_none, copied_more, copied_all}
+use Rattle.std.specs.Int.{w64, to_le_bytes}
+use Rattle.words.specs.Lists.{over, Over}
+use Rattle.words.proofs.Lists.{back, behind, length_over, over_behind, set_over_at}
 use Rattle.framer.specs.declared.Framer.{Framer}
 use Rattle.framer.specs.declared.Halves.{Halves}
 use Rattle.hub.specs.declared.Gathering.{Gathering}
@@ -16,114 +16,69 @@ use Rattle.sender.specs.declared.Sender.{Sender}
 use Rattle.table.specs.declared.Table.{Table}
 use Rattle.commands.specs.declared.Device.{Device}
 use Rattle.reader.specs.declared.Reader.{Reader}
-use Rattle.motikhund.specs.Control.{sender_control_size, reader_control_size, half_bytes, number_bytes, Small, flag_byte, flag_bytes, framer_bytes, halves_bytes, gathering_bytes, hub_bytes, sender_bytes, table_bytes, device_bytes, reader_bytes, SizedTable, PutsHalf, PutsNumber, PutsTwo, FlagByte, PutsFlag, PutsFramer, PutsHalves, PutsGathering, PutsHub, PutsSender, PutsLocks, PutsTable, PutsDevice, PutsReader}
-
--- ---- one to four stores
-
-pub one_put : {b : Bool} {x : ℕ} {room : List ℕ} → 1 ≤ length room → FlagByte b x → PutsFlag b room (set room 0 x)
-unfolding over
-one_put {room = []} h k = absurd (omega arith)
-one_put {room = a ∷ room} h k = record { is = ap (λ (x : ℕ). x ∷ room) k.is }
-
-pub three_put : {a b c : ℕ} {room : List ℕ} → 3 ≤ length room → Over (a ∷ b ∷ c ∷ []) room (set (set (set room 0 a) 1 b) 2 c)
-unfolding over
-three_put {room = []} h = absurd (omega arith)
-three_put {room = x ∷ []} h = absurd (omega arith)
-three_put {room = x ∷ y ∷ []} h = absurd (omega arith)
-three_put {room = x ∷ y ∷ z ∷ room} h = record { is = refl }
-
-pub four_put : {a b c d : ℕ} {room : List ℕ} → 4 ≤ length room → Over (a ∷ b ∷ c ∷ d ∷ []) room (set (set (set (set room 0 a) 1 b) 2 c) 3 d)
-unfolding over
-four_put {room = []} h = absurd (omega arith)
-four_put {room = x ∷ []} h = absurd (omega arith)
-four_put {room = x ∷ y ∷ []} h = absurd (omega arith)
-four_put {room = x ∷ y ∷ z ∷ []} h = absurd (omega arith)
-four_put {room = x ∷ y ∷ z ∷ w ∷ room} h = record { is = refl }
-
-pub half_put : {n : ℕ} {room room' : List ℕ} → Over (n % 256 ∷ n / 256 % 256 ∷ n / 65536 % 256 ∷ n / 16777216 % 256 ∷ []) room room' → PutsHalf n room room'
-unfolding half_bytes
-half_put k = record { is = k.is }
+use Rattle.motikhund.specs.Control.{sender_control_size, reader_control_size, number_bytes, Small, flag_byte, flag_bytes, framer_bytes, halves_bytes, gathering_bytes, hub_bytes, sender_bytes, table_bytes, device_bytes, reader_bytes, SizedTable, PutsNumber, PutsFramer, PutsHalves, PutsGathering, PutsHub, PutsSender, LockBytes, PutsTable, PutsDevice, PutsReader}
 
 -- ---- a part behind the one before it
 
-half_long : (n : ℕ) → length (half_bytes n) ≡ 4
-unfolding half_bytes
-half_long n = refl
+-- One store behind what stands at the front.
+set_behind : (a x : ℕ) (p room room₁ : List ℕ) → length p ≡ a → a < length room → room₁ ≡ over p room → set room₁ a x ≡ over (p ++ (x ∷ [])) room
+set_behind a x p room room₁ e h k =
+    let long : length room₁ ≡ length room = ap length k ∙ length_over p room (omega arith) in
+    set_over_at room₁ a x (omega arith) ∙ rw k (over_behind a p (x ∷ []) room e)
 
 pub number_long : (n : ℕ) → length (number_bytes n) ≡ 8
-unfolding half_bytes number_bytes
+unfolding number_bytes
 number_long n = refl
 
-two_long : (a b : ℕ) → length (number_bytes a ++ number_bytes b) ≡ 16
-two_long a b = length-append (number_bytes a) (number_bytes b) ∙ omega (arith, number_long a, number_long b)
-
 pub framer_long : (f : Framer) → length (framer_bytes f) ≡ 9
-unfolding half_bytes number_bytes framer_bytes
+unfolding number_bytes framer_bytes
 framer_long f = refl
 
 pub halves_long : (h : Halves) → length (halves_bytes h) ≡ 18
-unfolding half_bytes number_bytes framer_bytes halves_bytes
+unfolding number_bytes framer_bytes halves_bytes
 halves_long h = refl
 
 gathering_long : (g : Gathering) → length (gathering_bytes g) ≡ 11
-unfolding half_bytes number_bytes gathering_bytes
+unfolding number_bytes gathering_bytes
 gathering_long g = refl
 
-pub number_put : {n m : ℕ} {room room₁ part : List ℕ} → 8 ≤ length room → Small n → m ≡ n / 4294967296 →
-    PutsHalf n room room₁ → PutsHalf m (take (length room₁ - 4) (drop 4 room₁)) part → PutsNumber n room (back 4 part room₁)
+pub number_put : {n : ℕ} {s room room' : List ℕ} → Small n → s ≡ to_le_bytes w64 n → Over s room room' → PutsNumber n room room'
 unfolding number_bytes
-number_put {n} {m} {room} {room₁} {part} h s e low high =
-    record {
-      is =
-          behind 4 (half_bytes n) (half_bytes m) room room₁ part (half_long n) (omega (arith, half_long m)) low.is high.is
-          ∙ rw e refl;
-      small = s;
-    }
+number_put {room = room} small e k = record { is = k.is ∙ ap (λ (p : List ℕ). over p room) e; small = small }
 
-pub two_put : {a b : ℕ} {room room₁ part : List ℕ} → 16 ≤ length room → PutsNumber a room room₁ → PutsNumber b (take (length room₁ - 8) (drop 8 room₁)) part →
-    PutsTwo a b room (back 8 part room₁)
-two_put {a} {b} {room} {room₁} {part} h first second =
-    record {
-      is = behind 8 (number_bytes a) (number_bytes b) room room₁ part (number_long a) (omega (arith, number_long b)) first.is second.is;
-      first = first.small;
-      second = second.small;
-    }
-
-pub framer_put : {f : Framer} {room room₁ part : List ℕ} → 9 ≤ length room → PutsNumber f.count room room₁ →
-    PutsFlag f.deaf (take (length room₁ - 8) (drop 8 room₁)) part → PutsFramer f room (back 8 part room₁)
+pub framer_put : {f : Framer} {x : ℕ} {room room₁ : List ℕ} → 9 ≤ length room → PutsNumber f.count room room₁ → x ≡ flag_byte f.deaf → PutsFramer f room (set room₁ 8 x)
 unfolding framer_bytes
-framer_put {f} {room} {room₁} {part} h count deaf =
+framer_put {f} {x} {room} {room₁} h count deaf =
     record {
-      is = behind 8 (number_bytes f.count) (flag_byte f.deaf ∷ []) room room₁ part (number_long f.count) (omega arith) count.is deaf.is;
+      is = set_behind 8 x (number_bytes f.count) room room₁ (number_long f.count) (omega arith) count.is ∙ rw deaf refl;
       small = count.small;
     }
 
-pub halves_put : {h : Halves} {room room₁ room₂ part part₂ : List ℕ} → 18 ≤ length room → PutsFramer h.framer room room₁ →
-    PutsFlag h.second (take (length room₁ - 9) (drop 9 room₁)) part → room₂ ≡ back 9 part room₁ →
-    PutsNumber h.last (take (length room₂ - 10) (drop 10 room₂)) part₂ → PutsHalves h room (back 10 part₂ room₂)
+pub halves_put : {h : Halves} {x : ℕ} {room room₁ room₂ part : List ℕ} → 18 ≤ length room → PutsFramer h.framer room room₁ →
+    x ≡ flag_byte h.second → room₂ ≡ set room₁ 9 x →
+    PutsNumber h.last (take (length room₂ - 10) (drop 10 room₂)) part → PutsHalves h room (back 10 part room₂)
 unfolding halves_bytes
-halves_put {h} {room} {room₁} {room₂} {part} {part₂} l framer second e last =
+halves_put {h} {x} {room} {room₁} {room₂} {part} l framer second e last =
     let f = framer_bytes h.framer in
-    let s = flag_byte h.second ∷ [] in
     let n = number_bytes h.last in
-    let long : length (f ++ s) ≡ 10 = length-append f s ∙ omega (arith, framer_long h.framer) in
+    let long : length (f ++ (x ∷ [])) ≡ 10 = length-append f (x ∷ []) ∙ omega (arith, framer_long h.framer) in
     record {
       is =
-          behind 10 (f ++ s) n room room₂ part₂ long (omega (arith, number_long h.last))
-          (e ∙ behind 9 f s room room₁ part (framer_long h.framer) (omega arith) framer.is second.is)
+          behind 10 (f ++ (x ∷ [])) n room room₂ part long (omega (arith, number_long h.last))
+          (e ∙ set_behind 9 x f room room₁ (framer_long h.framer) (omega arith) framer.is)
           last.is
-          ∙ rw append_assoc refl;
+          ∙ rw (append_assoc, second) refl;
       small = record { count = framer.small; last = last.small };
     }
 
-pub gathering_put : {g : Gathering} {a b : ℕ} {room room₁ part : List ℕ} → 11 ≤ length room → FlagByte g.barred a → FlagByte g.begun b →
+pub gathering_put : {g : Gathering} {a b : ℕ} {room room₁ part : List ℕ} → 11 ≤ length room → a ≡ flag_byte g.barred → b ≡ flag_byte g.begun →
     Over (a ∷ b ∷ g.code ∷ []) room room₁ → PutsNumber g.count (take (length room₁ - 3) (drop 3 room₁)) part → PutsGathering g room (back 3 part room₁)
 unfolding gathering_bytes
 gathering_put {g} {a} {b} {room} {room₁} {part} l barred begun flags count =
     record {
       is =
           behind 3 (a ∷ b ∷ g.code ∷ []) (number_bytes g.count) room room₁ part refl (omega (arith, number_long g.count)) flags.is count.is
-          ∙ rw (barred.is, begun.is) refl;
+          ∙ rw (barred, begun) refl;
       small = count.small;
     }
 
@@ -140,36 +95,49 @@ hub_put {h} {room} {room₁} {part} l line gathering =
       small = record { line = line.small; count = gathering.small };
     }
 
-pub sender_put : {s : Sender} {a b c : ℕ} {room room₁ room₂ room₃ part part₂ part₃ : List ℕ} → sender_control_size ≤ length room → FlagByte s.out a → FlagByte s.failed b →
-    FlagByte s.delivered c →
+pub sender_put : {s : Sender} {a b c : ℕ} {room room₁ room₂ room₃ room₄ room₅ part part₂ part₃ part₄ part₅ : List ℕ} → sender_control_size ≤ length room →
+    a ≡ flag_byte s.out →
+    b ≡ flag_byte s.failed →
+    c ≡ flag_byte s.delivered →
     Over (a ∷ s.code ∷ b ∷ c ∷ []) room room₁ →
-    PutsTwo s.length s.at (take (length room₁ - 4) (drop 4 room₁)) part →
+    PutsNumber s.length (take (length room₁ - 4) (drop 4 room₁)) part →
     room₂ ≡ back 4 part room₁ →
-    PutsTwo s.size s.resends (take (length room₂ - 20) (drop 20 room₂)) part₂ →
-    room₃ ≡ back 20 part₂ room₂ →
-    PutsNumber s.copies (take (length room₃ - 36) (drop 36 room₃)) part₃ →
-    PutsSender s room (back 36 part₃ room₃)
+    PutsNumber s.at (take (length room₂ - 12) (drop 12 room₂)) part₂ →
+    room₃ ≡ back 12 part₂ room₂ →
+    PutsNumber s.size (take (length room₃ - 20) (drop 20 room₃)) part₃ →
+    room₄ ≡ back 20 part₃ room₃ →
+    PutsNumber s.resends (take (length room₄ - 28) (drop 28 room₄)) part₄ →
+    room₅ ≡ back 28 part₄ room₄ →
+    PutsNumber s.copies (take (length room₅ - 36) (drop 36 room₅)) part₅ →
+    PutsSender s room (back 36 part₅ room₅)
 unfolding sender_bytes
-sender_put {s} {a} {b} {c} {room} {room₁} {room₂} {room₃} {part} {part₂} {part₃} l out failed delivered flags places e tries g copies =
+sender_put {s} {a} {b} {c} {room} {room₁} {room₂} {room₃} {room₄} {room₅} {part} {part₂} {part₃} {part₄} {part₅} h out failed delivered flags first e₂ second e₃ third e₄ fourth e₅ fifth =
     let f = a ∷ s.code ∷ b ∷ c ∷ [] in
-    let p = number_bytes s.length ++ number_bytes s.at in
-    let q = number_bytes s.size ++ number_bytes s.resends in
+    let l = number_bytes s.length in
+    let p = number_bytes s.at in
+    let q = number_bytes s.size in
+    let r = number_bytes s.resends in
     let n = number_bytes s.copies in
-    let fp : length (f ++ p) ≡ 20 = length-append f p ∙ omega (arith, two_long s.length s.at) in
-    let fpq : length ((f ++ p) ++ q) ≡ 36 = length-append (f ++ p) q ∙ omega (arith, two_long s.size s.resends) in
-    let second = behind 4 f p room room₁ part refl (omega (arith, two_long s.length s.at)) flags.is places.is in
-    let third = behind 20 (f ++ p) q room room₂ part₂ fp (omega (arith, two_long s.size s.resends)) (e ∙ second) tries.is in
+    let fl : length (f ++ l) ≡ 12 = length-append f l ∙ omega (arith, number_long s.length) in
+    let flp : length ((f ++ l) ++ p) ≡ 20 = length-append (f ++ l) p ∙ omega (arith, number_long s.at) in
+    let flpq : length (((f ++ l) ++ p) ++ q) ≡ 28 = length-append ((f ++ l) ++ p) q ∙ omega (arith, number_long s.size) in
+    let flpqr : length ((((f ++ l) ++ p) ++ q) ++ r) ≡ 36 = length-append (((f ++ l) ++ p) ++ q) r ∙ omega (arith, number_long s.resends) in
+    let k₂ = e₂ ∙ behind 4 f l room room₁ part refl (omega (arith, number_long s.length)) flags.is first.is in
+    let k₃ = e₃ ∙ behind 12 (f ++ l) p room room₂ part₂ fl (omega (arith, number_long s.at)) k₂ second.is in
+    let k₄ = e₄ ∙ behind 20 ((f ++ l) ++ p) q room room₃ part₃ flp (omega (arith, number_long s.size)) k₃ third.is in
+    let k₅ = e₅ ∙ behind 28 (((f ++ l) ++ p) ++ q) r room room₄ part₄ flpq (omega (arith, number_long s.resends)) k₄ fourth.is in
+    let shape : ((((f ++ l) ++ p) ++ q) ++ r) ++ n ≡ f ++ ((l ++ p) ++ ((q ++ r) ++ n)) = simp append_assoc in
     record {
       is =
-          behind 36 ((f ++ p) ++ q) n room room₃ part₃ fpq (omega (arith, number_long s.copies)) (g ∙ third) copies.is
-          ∙ rw (out.is, failed.is, delivered.is, append_assoc p q n) refl;
-      small = record { length = places.first; at = places.second; size = tries.first; resends = tries.second; copies = copies.small };
+          behind 36 ((((f ++ l) ++ p) ++ q) ++ r) n room room₅ part₅ flpqr (omega (arith, number_long s.copies)) k₅ fifth.is
+          ∙ (ap (λ (t : List ℕ). over t room) shape ∙ rw (out, failed, delivered) refl);
+      small = record { length = first.small; at = second.small; size = third.small; resends = fourth.small; copies = fifth.small };
     }
 
 -- ---- the reader
 
 sender_long : (s : Sender) → length (sender_bytes s) ≡ sender_control_size
-unfolding half_bytes number_bytes sender_bytes
+unfolding number_bytes sender_bytes
 sender_long s = refl
 
 pub flags_long : (bs : List Bool) → length (flag_bytes bs) ≡ length bs
@@ -184,47 +152,23 @@ pub device_long : (d : Device) → SizedTable d.table → length (device_bytes d
 unfolding device_bytes
 device_long d k = simp length-append (omega (arith, table_long d.table k))
 
--- The flags of the first i locks are written.
-flag_at : (locked : List Bool) (i : ℕ) → i < length locked → get_or (flag_bytes locked) i 0 ≡ flag_byte (get_or locked i false)
-flag_at [] i h = absurd (omega arith)
-flag_at (b ∷ bs) zero h = refl
-flag_at (b ∷ bs) (suc i) h = flag_at bs i (omega arith)
-
-pub record Flagging (locked : List Bool) (room₀ room : List ℕ) (i : ℕ) : Type 0 where
-  pub copying : Copying (flag_bytes locked) room₀ room i
-  pub sized : length locked ≡ 9
-
-pub flagging_none : {locked : List Bool} {room : List ℕ} → length locked ≡ 9 → 9 ≤ length room → Flagging locked room room 0
-flagging_none {locked} e h = record { copying = copied_none (let l = flags_long locked in omega arith); sized = e }
-
-pub flagging_more : {locked : List Bool} {room₀ room : List ℕ} {i x : ℕ} → Flagging locked room₀ room i → i < 9 → FlagByte (get_or locked i false) x → Flagging locked room₀ (set room i x) (i + 1)
-flagging_more {locked} {room₀} {room} {i} {x} k h f =
-    let l = flags_long locked in
-    let e : x ≡ get_or (flag_bytes locked) i 0 = f.is ∙ sym (flag_at locked i (omega (arith, k.sized))) in
-    record { copying = rw e (copied_more k.copying (omega (arith, k.sized))); sized = k.sized }
-
-pub flagging_all : {locked : List Bool} {room₀ room : List ℕ} {i : ℕ} → Flagging locked room₀ room i → 9 ≤ i → PutsLocks locked room₀ room
-flagging_all {locked} k h = record { is = (copied_all k.copying (let l = flags_long locked in omega (arith, k.sized))).is }
-
-pub table_put : {t : Table} {room room₁ room₂ part part₂ : List ℕ} → 27 ≤ length room → length t.present ≡ 9 → length t.permanent ≡ 9 → length t.locked ≡ 9 →
-    Copied t.present room room₁ → Copied t.permanent (take (length room₁ - 9) (drop 9 room₁)) part → room₂ ≡ back 9 part room₁ →
-    PutsLocks t.locked (take (length room₂ - 18) (drop 18 room₂)) part₂ → PutsTable t room (back 18 part₂ room₂)
+pub table_put : {t : Table} {f room room₁ room₂ part part₂ : List ℕ} → 27 ≤ length room → length t.present ≡ 9 → length t.permanent ≡ 9 → length t.locked ≡ 9 →
+    Over t.present room room₁ → Over t.permanent (take (length room₁ - 9) (drop 9 room₁)) part → room₂ ≡ back 9 part room₁ → LockBytes t.locked f →
+    Over f (take (length room₂ - 18) (drop 18 room₂)) part₂ → PutsTable t room (back 18 part₂ room₂)
 unfolding table_bytes
-table_put {t} {room} {room₁} {room₂} {part} {part₂} l p q m present permanent e locks =
-    let first : room₁ ≡ over t.present room = copied_over (omega arith) present in
-    let long : length room₁ ≡ length room = ap length first ∙ length_over t.present room (omega arith) in
-    let rest : length (take (length room₁ - 9) (drop 9 room₁)) ≡ length room₁ - 9 = simp (length-take, length-drop) (omega arith) in
-    let both = behind 9 t.present t.permanent room room₁ part p (omega arith) first (copied_over (omega arith) permanent) in
+table_put {t} {f} {room} {room₁} {room₂} {part} {part₂} l p q m present permanent e flags locks =
+    let both = behind 9 t.present t.permanent room room₁ part p (omega arith) present.is permanent.is in
     let two : length (t.present ++ t.permanent) ≡ 18 = length-append t.present t.permanent ∙ omega arith in
+    let long : length f ≡ 9 = ap length flags.is ∙ (flags_long t.locked ∙ m) in
     record {
       is =
-          behind 18 (t.present ++ t.permanent) (flag_bytes t.locked) room room₂ part₂ two (omega (arith, flags_long t.locked)) (e ∙ both) locks.is
-          ∙ rw (append_assoc t.present t.permanent (flag_bytes t.locked)) refl;
+          behind 18 (t.present ++ t.permanent) f room room₂ part₂ two (omega arith) (e ∙ both) locks.is
+          ∙ rw (append_assoc t.present t.permanent f, flags.is) refl;
       sized = record { present = p; permanent = q; locked = m };
     }
 
-pub device_put : {d : Device} {a b e f : ℕ} {room room₁ part : List ℕ} → 31 ≤ length room → FlagByte d.switches.scanning a → FlagByte d.switches.session b → FlagByte d.switches.aim e →
-    FlagByte d.switches.led f →
+pub device_put : {d : Device} {a b e f : ℕ} {room room₁ part : List ℕ} → 31 ≤ length room → a ≡ flag_byte d.switches.scanning → b ≡ flag_byte d.switches.session → e ≡ flag_byte d.switches.aim →
+    f ≡ flag_byte d.switches.led →
     PutsTable d.table room room₁ →
     Over (a ∷ b ∷ e ∷ f ∷ []) (take (length room₁ - 27) (drop 27 room₁)) part →
     PutsDevice d room (back 27 part room₁)
@@ -233,7 +177,7 @@ device_put {d} {a} {b} {e} {f} {room} {room₁} {part} l scanning session aim le
     record {
       is =
           behind 27 (table_bytes d.table) (a ∷ b ∷ e ∷ f ∷ []) room room₁ part (table_long d.table table.sized) (omega arith) table.is flags.is
-          ∙ rw (scanning.is, session.is, aim.is, led.is) refl;
+          ∙ rw (scanning, session, aim, led) refl;
       sized = table.sized;
     }
 

@@ -17,7 +17,7 @@ use Rattle.saved.specs.Promises as saved
 use Rattle.reader.specs.Promises as reading
 use Rattle.reader.specs.declared.Reader.{Reader}
 use Rattle.motikhund.specs.Lent.{at_least, Lacking, none, more}
-use Rattle.motikhund.specs.Control.{flag_bytes, reader_control_size, reader_in, LocksIn, PutsLocks, ReaderIn, PutsReader}
+use Rattle.motikhund.specs.Control.{flag_bytes, reader_control_size, reader_in, LocksIn, ReaderIn, PutsReader}
 use Rattle.motikhund.specs.Numbers.{VerdictNumber, RefusalNumber}
 use Rattle.motikhund.specs.Tables.{table_of, with_values, struct_after, all_allowed, reader_after, TableOf, StructOf, WithValues, AllAllowed, SetsTable, DefaultsTable, PowersUpTable, TakesOut, PutsBack}
 use Rattle.motikhund.specs.declared.tables.MkTable.{MkTable}
@@ -29,15 +29,6 @@ use Rattle.motikhund.proofs.Calls.{asks_13, asks_enough, reader_kept, alone, put
 pub table_of_lem : {k : MkTable} {locks : List Bool} → length k.locked ≡ parameter_count → LocksIn k.locked locks →
     TableOf k (record { present = k.present; permanent = k.permanent; locked = locks })
 table_of_lem {k} l locks = record { is = rw (locks.is, take_all parameter_count k.locked (omega (arith, l))) refl }
-
--- Written over as many bytes, they are all there is.
-covers : (p room : List ℕ) → length p ≡ length room → over p room ≡ p
-unfolding over
-covers p room e = rw (drop_of_length-le room {i = length p} (omega (arith, e))) (append-nil p)
-
-pub struct_of_lem : {t : Table} {room bytes : List ℕ} → length room ≡ parameter_count → length t.locked ≡ parameter_count → PutsLocks t.locked room bytes →
-    StructOf t (record { present = t.present; permanent = t.permanent; locked = bytes })
-struct_of_lem {t} {room} l m put = record { is = rw (put.is, covers (flag_bytes t.locked) room (flags_long t.locked ∙ (m ∙ sym l))) refl }
 
 pub both_allowed : {k : MkTable} {present permanent : Bool} → saved.AllAllowed k.present present → present ≡ true → saved.AllAllowed k.permanent permanent → AllAllowed k permanent
 unfolding all_allowed

@@ -19,7 +19,7 @@ use Rattle.reader.specs.declared.Told.TheVariants as commanded
 use Rattle.sender.specs.declared.Outcome.{Outcome}
 use Rattle.sender.specs.declared.Heard.{Heard}
 use Rattle.sender.specs.declared.Heard.TheVariants as heard
-use Rattle.motikhund.specs.Control.{flag_byte, FlagByte, Switches}
+use Rattle.motikhund.specs.Control.{flag_byte, Switches}
 use Rattle.motikhund.specs.Numbers.{event_of, heard_of, heard_number, reply_of, hub_values, reader_row, reader_values, EventOf, HeardOf, ReplyOf, HubValues, OutcomeValue, OutcomeGap, StartValues, RowOf, ReaderRow, ReaderValues}
 
 -- ---- an event
@@ -82,8 +82,8 @@ hub_message {answer = answer} {count = count} e k = record { is = rw (e, k.is) r
 
 -- ---- what a start told
 
-pub start_values_lem : {o : Outcome} {gap : Bool} {value flag due : ℕ} → OutcomeValue o value → OutcomeGap o gap → FlagByte gap flag → Wide flag due → StartValues o (value ∷ due ∷ [])
-start_values_lem v g f w = record { is = rw (v.is, w.is, f.is, g.is) refl }
+pub start_values_lem : {o : Outcome} {gap : Bool} {value due : ℕ} → OutcomeValue o value → OutcomeGap o gap → due ≡ flag_byte gap → StartValues o (value ∷ due ∷ [])
+start_values_lem v g f = record { is = rw (v.is, f, g.is) refl }
 
 -- ---- what the reader told
 
@@ -98,16 +98,13 @@ three_of (commanded.Acted beep.Silent) rest = refl
 three_of (commanded.Acted (beep.Row d p n)) rest = refl
 three_of commanded.Repeated rest = refl
 
-pub reader_values_lem : {t : Commanded} {o : Outcome} {changed : Bool} {answer value flag permanent : ℕ} {row : List ℕ} → ReaderRow t row → OutcomeValue o value → FlagByte changed flag → Wide flag permanent →
+pub reader_values_lem : {t : Commanded} {o : Outcome} {changed : Bool} {answer value permanent : ℕ} {row : List ℕ} → ReaderRow t row → OutcomeValue o value → permanent ≡ flag_byte changed →
     ReaderValues t answer o changed (answer ∷ get_or row 0 0 ∷ get_or row 1 0 ∷ get_or row 2 0 ∷ value ∷ permanent ∷ [])
 unfolding reader_values
-reader_values_lem {t} {answer = answer} {value} {permanent = permanent} k v f w =
-    record { is = rw (k.is, ← v.is, ← f.is, ← w.is) (ap (λ (s : List ℕ). answer ∷ s) (three_of t (value ∷ permanent ∷ []))) }
+reader_values_lem {t} {answer = answer} {value} {permanent} k v f =
+    record { is = rw (k.is, ← v.is, ← f) (ap (λ (s : List ℕ). answer ∷ s) (three_of t (value ∷ permanent ∷ []))) }
 
 -- ---- what is switched on
-
-pub switch_is : {b : Bool} {n w : ℕ} → FlagByte b n → Wide n w → w ≡ flag_byte b
-switch_is flag wide = wide.is ∙ flag.is
 
 pub switches_are : {d : Device} {scanning session aim led : ℕ} → scanning ≡ flag_byte d.switches.scanning → session ≡ flag_byte d.switches.session → aim ≡ flag_byte d.switches.aim → led ≡ flag_byte d.switches.led →
     Switches d (scanning ∷ session ∷ aim ∷ led ∷ [])

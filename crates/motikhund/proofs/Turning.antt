@@ -24,7 +24,7 @@ use Rattle.hub.specs.declared.Told.{Told}
 use Rattle.hub.specs.declared.Told.TheVariants as told
 use Rattle.hub.proofs.Blocks.{named_as, name_refused, leaves_at, Leaves, Carried, Carries, Reads, Goes, Turn, carries, room_open, goes_first, goes_on_lem, message_same, turns, answer_fits, answer_length, goes_again, no_message_yet, reads_all, reads_turn, block_read}
 use Rattle.motikhund.specs.Lent.{none, more}
-use Rattle.motikhund.specs.Control.{hub_control_size, half_bytes, number_bytes, framer_bytes, halves_bytes, gathering_bytes, hub_in, hub_bytes, HubIn, PutsHub}
+use Rattle.motikhund.specs.Control.{hub_control_size, number_bytes, framer_bytes, halves_bytes, gathering_bytes, hub_in, hub_bytes, HubIn, PutsHub}
 use Rattle.motikhund.specs.Numbers.{is_event, event_of, hub_number, hub_values}
 use Rattle.motikhund.specs.Promises.{HubTakes, HubHears, HubTakesBlock}
 use Rattle.motikhund.specs.Blocks.{CarriesBytes, NamesNumber, LeavesNumber}
@@ -123,7 +123,7 @@ shown before (told.Refused r) a b k = bare_named before r (ltb (number_of r) 3) 
 -- ---- the control bytes
 
 hub_size : (h : Hub) → length (hub_bytes h) ≡ hub_control_size
-unfolding hub_bytes halves_bytes framer_bytes number_bytes half_bytes gathering_bytes
+unfolding hub_bytes halves_bytes framer_bytes number_bytes gathering_bytes
 hub_size h = refl
 
 -- The bytes of a hub over control bytes that hold one already, or that are as they were.

@@ -1,6 +1,7 @@
 -- Control values as bytes. A number takes eight bytes, low byte first; a flag one, 1 where it holds and 0 where not. Any other byte
 -- reads as a flag that does not hold, so any bytes are some control value.
-use Rattle.std.specs.Prelude.{ℕ, ◌+◌, ◌*◌, ◌/◌, ◌%◌, ◌<◌, Bool, true, false, not, List, [], ◌∷◌, ◌++◌, map, ◌≡◌, eqb, length, get_or, take, drop}
+use Rattle.std.specs.Prelude.{ℕ, ◌+◌, ◌*◌, ◌<◌, Bool, not, List, [], ◌∷◌, ◌++◌, map, ◌≡◌, eqb, length, get_or, take, drop}
+use Rattle.std.specs.Int.{w64, from_bool, from_le_bytes, to_le_bytes}
 use Rattle.words.specs.Lists.{over, same_bytes}
 use Rattle.framer.specs.declared.Framer.{Framer}
 use Rattle.framer.specs.declared.Halves.{Halves}
@@ -14,11 +15,8 @@ use Rattle.reader.specs.declared.Reader.{Reader}
 
 -- ---- sizes, part by part
 
-abbrev pub half_size : ℕ
-half_size = 4
-
 abbrev pub number_size : ℕ
-number_size = 2 * half_size
+number_size = 8
 
 abbrev pub framer_control_size : ℕ
 framer_control_size = number_size + 1
@@ -50,17 +48,11 @@ reader_control_size = halves_size + number_size + device_size + sender_control_s
 
 -- ---- numbers and flags
 
-unfoldable pub half_in : List ℕ → ℕ
-half_in s = get_or s 0 0 + get_or s 1 0 * 256 + (get_or s 2 0 + get_or s 3 0 * 256) * 65536
-
-unfoldable pub half_bytes : ℕ → List ℕ
-half_bytes n = n % 256 ∷ n / 256 % 256 ∷ n / 65536 % 256 ∷ n / 16777216 % 256 ∷ []
-
 unfoldable pub number_in : List ℕ → ℕ
-number_in s = half_in s + half_in (drop 4 s) * 4294967296
+number_in s = from_le_bytes w64 s
 
 unfoldable pub number_bytes : ℕ → List ℕ
-number_bytes n = half_bytes n ++ half_bytes (n / 4294967296)
+number_bytes n = to_le_bytes w64 n
 
 -- What the code's numbers keep to.
 abbrev pub Small : ℕ → Type 0
@@ -70,8 +62,7 @@ abbrev pub flag_in : List ℕ → ℕ → Bool
 flag_in s at = eqb (get_or s at 0) 1
 
 abbrev pub flag_byte : Bool → ℕ
-flag_byte true = 1
-flag_byte false = 0
+flag_byte b = from_bool b
 
 -- ---- the framer: 0 to 7 count, 8 deaf; over two halves: 9 second, 10 to 17 last
 
@@ -191,30 +182,16 @@ pub record SmallReader (r : Reader) : Type 0 where
 
 -- ---- promises
 
-pub record HalfIn (s : List ℕ) (r : ℕ) : Type 0 where
-  pub is : r ≡ half_in s
-  pub small : r < 4294967296
+-- The first bytes of some bytes.
+pub record PartOf (n : ℕ) (s r : List ℕ) : Type 0 where
+  pub is : r ≡ take n s
 
 pub record NumberIn (s : List ℕ) (r : ℕ) : Type 0 where
   pub is : r ≡ number_in s
 
-pub record PutsHalf (n : ℕ) (room room' : List ℕ) : Type 0 where
-  pub is : room' ≡ over (half_bytes n) room
-
 pub record PutsNumber (n : ℕ) (room room' : List ℕ) : Type 0 where
   pub is : room' ≡ over (number_bytes n) room
   pub small : Small n
-
-pub record PutsTwo (a b : ℕ) (room room' : List ℕ) : Type 0 where
-  pub is : room' ≡ over (number_bytes a ++ number_bytes b) room
-  pub first : Small a
-  pub second : Small b
-
-pub record FlagByte (b : Bool) (r : ℕ) : Type 0 where
-  pub is : r ≡ flag_byte b
-
-pub record PutsFlag (b : Bool) (room room' : List ℕ) : Type 0 where
-  pub is : room' ≡ over (flag_byte b ∷ []) room
 
 pub record FramerIn (s : List ℕ) (r : Framer) : Type 0 where
   pub is : r ≡ framer_in s
@@ -251,14 +228,11 @@ pub record PutsSender (s : Sender) (room room' : List ℕ) : Type 0 where
   pub is : room' ≡ over (sender_bytes s) room
   pub small : SmallSender s
 
-pub record ValuesIn (s r : List ℕ) : Type 0 where
-  pub is : r ≡ take parameter_count s
-
 pub record LocksIn (s : List ℕ) (r : List Bool) : Type 0 where
   pub is : r ≡ flags_in (take parameter_count s)
 
-pub record PutsLocks (locked : List Bool) (room room' : List ℕ) : Type 0 where
-  pub is : room' ≡ over (flag_bytes locked) room
+pub record LockBytes (locked : List Bool) (r : List ℕ) : Type 0 where
+  pub is : r ≡ flag_bytes locked
 
 pub record TableIn (s : List ℕ) (r : Table) : Type 0 where
   pub is : r ≡ table_in s

@@ -1,9 +1,9 @@
 // Control values as bytes, so that a caller in another language keeps them without knowing them. What stands where is said in
 // specs/Control.antt; any bytes are some control value.
-ghost use Rattle.std.specs.Prelude.{◌*◌, ◌≤◌, [], ◌∷◌, length};
+ghost use Rattle.std.specs.Prelude.{◌≤◌, length};
 ghost use Rattle.words.specs.Lists.{Over};
 ghost use Rattle.table.specs.Rows.{parameter_count};
-ghost use Rattle.motikhund.specs.Control.{half_size, number_size, framer_control_size, halves_size, gathering_size, hub_control_size, sender_control_size, table_size, device_size, reader_control_size, HalfIn, NumberIn, PutsHalf, PutsNumber, PutsTwo, FlagByte, PutsFlag, FramerIn, PutsFramer, HalvesIn, PutsHalves, GatheringIn, PutsGathering, HubIn, PutsHub, SenderIn, PutsSender, ValuesIn, LocksIn, PutsLocks, TableIn, PutsTable, DeviceIn, PutsDevice, Switches, ReaderIn, PutsReader, PermanentChanged};
+ghost use Rattle.motikhund.specs.Control.{number_size, framer_control_size, halves_size, gathering_size, hub_control_size, sender_control_size, table_size, device_size, reader_control_size, PartOf, NumberIn, PutsNumber, FramerIn, PutsFramer, HalvesIn, PutsHalves, GatheringIn, PutsGathering, HubIn, PutsHub, SenderIn, PutsSender, LocksIn, LockBytes, TableIn, PutsTable, DeviceIn, PutsDevice, Switches, ReaderIn, PutsReader, PermanentChanged};
 
 use commands::Device;
 use framer::{Framer, Halves};
@@ -12,7 +12,7 @@ use reader::Reader;
 use sender::Sender;
 use table::{PARAMETER_COUNT, Table};
 
-// The sizes, part by part.
+// The sizes, part by part. A part begins where those before it end, so a size is also a place.
 const NUMBER_SIZE: usize = 8;
 
 pub const FRAMER_CONTROL_SIZE: usize = NUMBER_SIZE + 1;
@@ -22,99 +22,71 @@ pub const GOING_SIZE: usize = FRAMER_CONTROL_SIZE + 1;
 
 const HALVES_SIZE: usize = GOING_SIZE + NUMBER_SIZE;
 
-const GATHERING_SIZE: usize = 3 + NUMBER_SIZE;
+// Of what is gathered: barred, begun and the code, before the count.
+const GATHERING_FRONT: usize = 3;
+
+const GATHERING_SIZE: usize = GATHERING_FRONT + NUMBER_SIZE;
 
 pub const HUB_CONTROL_SIZE: usize = HALVES_SIZE + GATHERING_SIZE;
 
-pub const SENDER_CONTROL_SIZE: usize = 4 + 5 * NUMBER_SIZE;
+// Of a sender: three flags and the code, before the five numbers.
+const SENDER_FRONT: usize = 4;
 
-const TABLE_SIZE: usize = 3 * PARAMETER_COUNT;
+const SENDER_AT: usize = SENDER_FRONT + NUMBER_SIZE;
+
+const SENDER_PIECE: usize = SENDER_AT + NUMBER_SIZE;
+
+const SENDER_RESENDS: usize = SENDER_PIECE + NUMBER_SIZE;
+
+const SENDER_COPIES: usize = SENDER_RESENDS + NUMBER_SIZE;
+
+pub const SENDER_CONTROL_SIZE: usize = SENDER_COPIES + NUMBER_SIZE;
+
+const VALUES_SIZE: usize = 2 * PARAMETER_COUNT;
+
+const TABLE_SIZE: usize = VALUES_SIZE + PARAMETER_COUNT;
 
 const DEVICE_SIZE: usize = TABLE_SIZE + 4;
 
-pub const READER_CONTROL_SIZE: usize = HALVES_SIZE
-    + NUMBER_SIZE
-    + DEVICE_SIZE
-    + SENDER_CONTROL_SIZE;
+// Of a reader: its line and how long the last answer was, before the device.
+const READER_FRONT: usize = HALVES_SIZE + NUMBER_SIZE;
 
-// ---- numbers and flags
+const READER_PERMANENT: usize = READER_FRONT + PARAMETER_COUNT;
 
-fn half(s: &[u8]) -> usize
-    requires { half_size ≤ length s.now }
-    ensures { HalfIn s.now result }
+const READER_SENDER: usize = READER_FRONT + DEVICE_SIZE;
+
+pub const READER_CONTROL_SIZE: usize = READER_SENDER + SENDER_CONTROL_SIZE;
+
+// ---- parts and numbers
+
+fn part<const N: usize>(s: &[u8]) -> [u8; N]
+    requires { N ≤ length s.now }
+    ensures { PartOf N s.now result }
 {
-    let low = words::wide(s[0]) + words::wide(s[1]) * 256;
-    let high = words::wide(s[2]) + words::wide(s[3]) * 256;
-    low + high * 65536
+    let mut part = [0; N];
+    part.copy_from_slice(&s[..N]);
+    part
+}
+
+fn put<const N: usize>(part: &[u8; N], room: &mut [u8])
+    requires { N ≤ length room.old }
+    ensures { Over part.now room.old room.new }
+{
+    room[..N].copy_from_slice(part);
 }
 
 fn number(s: &[u8]) -> usize
     requires { number_size ≤ length s.now }
     ensures { NumberIn s.now result }
 {
-    half(s) + half(&s[4..]) * 4294967296
-}
-
-fn put_half(n: usize, room: &mut [u8])
-    requires { half_size ≤ length room.old }
-    ensures { PutsHalf n room.old room.new }
-{
-    let a = (n % 256) as u8;
-    let b = (n / 256 % 256) as u8;
-    let c = (n / 65536 % 256) as u8;
-    let d = (n / 16777216 % 256) as u8;
-    put_four(a, b, c, d, room);
+    usize::from_le_bytes(part::<NUMBER_SIZE>(s))
 }
 
 pub(crate) fn put_number(n: usize, room: &mut [u8])
     requires { number_size ≤ length room.old }
     ensures { PutsNumber n room.old room.new }
 {
-    put_half(n, room);
-    put_half(n / 4294967296, &mut room[4..]);
-}
-
-fn put_two(a: usize, b: usize, room: &mut [u8])
-    requires { 2 * number_size ≤ length room.old }
-    ensures { PutsTwo a b room.old room.new }
-{
-    put_number(a, room);
-    put_number(b, &mut room[8..]);
-}
-
-pub(crate) fn flag(b: bool) -> u8
-    ensures { FlagByte b result }
-{
-    if b {
-        return 1;
-    }
-    0
-}
-
-fn put_flag(b: bool, room: &mut [u8])
-    requires { 1 ≤ length room.old }
-    ensures { PutsFlag b room.old room.new }
-{
-    room[0] = flag(b);
-}
-
-fn put_three(a: u8, b: u8, c: u8, room: &mut [u8])
-    requires { 3 ≤ length room.old }
-    ensures { Over (a ∷ b ∷ c ∷ []) room.old room.new }
-{
-    room[0] = a;
-    room[1] = b;
-    room[2] = c;
-}
-
-fn put_four(a: u8, b: u8, c: u8, d: u8, room: &mut [u8])
-    requires { 4 ≤ length room.old }
-    ensures { Over (a ∷ b ∷ c ∷ d ∷ []) room.old room.new }
-{
-    room[0] = a;
-    room[1] = b;
-    room[2] = c;
-    room[3] = d;
+    put(&n.to_le_bytes(), room);
 }
 
 // ---- the framer, alone and over two halves
@@ -125,7 +97,7 @@ pub(crate) fn framer(s: &[u8]) -> Framer
 {
     Framer {
         count: number(s),
-        deaf: s[8] == 1,
+        deaf: s[NUMBER_SIZE] == 1,
     }
 }
 
@@ -134,7 +106,7 @@ pub(crate) fn put_framer(framer: Framer, room: &mut [u8])
     ensures { PutsFramer framer room.old room.new }
 {
     put_number(framer.count, room);
-    put_flag(framer.deaf, &mut room[8..]);
+    room[NUMBER_SIZE] = u8::from(framer.deaf);
 }
 
 fn halves(s: &[u8]) -> Halves
@@ -143,8 +115,8 @@ fn halves(s: &[u8]) -> Halves
 {
     Halves {
         framer: framer(s),
-        second: s[9] == 1,
-        last: number(&s[10..]),
+        second: s[FRAMER_CONTROL_SIZE] == 1,
+        last: number(&s[GOING_SIZE..]),
     }
 }
 
@@ -152,10 +124,9 @@ fn put_halves(halves: Halves, room: &mut [u8])
     requires { halves_size ≤ length room.old }
     ensures { PutsHalves halves room.old room.new }
 {
-    let framer = halves.framer;
-    put_framer(framer, room);
-    put_flag(halves.second, &mut room[9..]);
-    put_number(halves.last, &mut room[10..]);
+    put_framer(halves.framer, room);
+    room[FRAMER_CONTROL_SIZE] = u8::from(halves.second);
+    put_number(halves.last, &mut room[GOING_SIZE..]);
 }
 
 // ---- the hub
@@ -168,7 +139,7 @@ fn gathering(s: &[u8]) -> Gathering
         barred: s[0] == 1,
         begun: s[1] == 1,
         code: s[2],
-        count: number(&s[3..]),
+        count: number(&s[GATHERING_FRONT..]),
     }
 }
 
@@ -176,13 +147,13 @@ fn put_gathering(gathering: Gathering, room: &mut [u8])
     requires { gathering_size ≤ length room.old }
     ensures { PutsGathering gathering room.old room.new }
 {
-    put_three(
-        flag(gathering.barred),
-        flag(gathering.begun),
+    let front = [
+        u8::from(gathering.barred),
+        u8::from(gathering.begun),
         gathering.code,
-        room,
-    );
-    put_number(gathering.count, &mut room[3..]);
+    ];
+    put(&front, room);
+    put_number(gathering.count, &mut room[GATHERING_FRONT..]);
 }
 
 pub(crate) fn hub(s: &[u8]) -> Hub
@@ -191,7 +162,7 @@ pub(crate) fn hub(s: &[u8]) -> Hub
 {
     Hub {
         line: halves(s),
-        gathering: gathering(&s[18..]),
+        gathering: gathering(&s[HALVES_SIZE..]),
     }
 }
 
@@ -199,10 +170,8 @@ pub(crate) fn put_hub(hub: Hub, room: &mut [u8])
     requires { hub_control_size ≤ length room.old }
     ensures { PutsHub hub room.old room.new }
 {
-    let line = hub.line;
-    let gathering = hub.gathering;
-    put_halves(line, room);
-    put_gathering(gathering, &mut room[18..]);
+    put_halves(hub.line, room);
+    put_gathering(hub.gathering, &mut room[HALVES_SIZE..]);
 }
 
 // ---- the sender
@@ -214,11 +183,11 @@ pub(crate) fn sender(s: &[u8]) -> Sender
     Sender {
         out: s[0] == 1,
         code: s[1],
-        length: number(&s[4..]),
-        at: number(&s[12..]),
-        size: number(&s[20..]),
-        resends: number(&s[28..]),
-        copies: number(&s[36..]),
+        length: number(&s[SENDER_FRONT..]),
+        at: number(&s[SENDER_AT..]),
+        size: number(&s[SENDER_PIECE..]),
+        resends: number(&s[SENDER_RESENDS..]),
+        copies: number(&s[SENDER_COPIES..]),
         failed: s[2] == 1,
         delivered: s[3] == 1,
     }
@@ -228,63 +197,43 @@ pub(crate) fn put_sender(sender: Sender, room: &mut [u8])
     requires { sender_control_size ≤ length room.old }
     ensures { PutsSender sender room.old room.new }
 {
-    let out = flag(sender.out);
-    let failed = flag(sender.failed);
-    let delivered = flag(sender.delivered);
-    put_four(out, sender.code, failed, delivered, room);
-    put_two(sender.length, sender.at, &mut room[4..]);
-    put_two(sender.size, sender.resends, &mut room[20..]);
-    put_number(sender.copies, &mut room[36..]);
+    let front = [
+        u8::from(sender.out),
+        sender.code,
+        u8::from(sender.failed),
+        u8::from(sender.delivered),
+    ];
+    put(&front, room);
+    put_number(sender.length, &mut room[SENDER_FRONT..]);
+    put_number(sender.at, &mut room[SENDER_AT..]);
+    put_number(sender.size, &mut room[SENDER_PIECE..]);
+    put_number(sender.resends, &mut room[SENDER_RESENDS..]);
+    put_number(sender.copies, &mut room[SENDER_COPIES..]);
 }
 
 // ---- the reader
-
-fn values(s: &[u8]) -> [u8; PARAMETER_COUNT]
-    requires { parameter_count ≤ length s.now }
-    ensures { ValuesIn s.now result }
-{
-    [s[0], s[1], s[2], s[3], s[4], s[5], s[6], s[7], s[8]]
-}
 
 pub(crate) fn locks(s: &[u8]) -> [bool; PARAMETER_COUNT]
     requires { parameter_count ≤ length s.now }
     ensures { LocksIn s.now result }
 {
-    [
-        s[0] == 1,
-        s[1] == 1,
-        s[2] == 1,
-        s[3] == 1,
-        s[4] == 1,
-        s[5] == 1,
-        s[6] == 1,
-        s[7] == 1,
-        s[8] == 1,
-    ]
+    part::<PARAMETER_COUNT>(s).map(|b| b == 1)
 }
 
-pub(crate) fn put_locks(locked: [bool; PARAMETER_COUNT], room: &mut [u8])
-    requires { parameter_count ≤ length room.old }
-    ensures { PutsLocks locked room.old room.new }
+pub(crate) fn lock_bytes(locked: [bool; PARAMETER_COUNT]) -> [u8; PARAMETER_COUNT]
+    ensures { LockBytes locked result }
 {
-    let mut i = 0;
-    while i < PARAMETER_COUNT {
-        room[i] = flag(locked[i]);
-        i += 1;
-    }
+    locked.map(u8::from)
 }
 
 fn table(s: &[u8]) -> Table
     requires { table_size ≤ length s.now }
     ensures { TableIn s.now result }
 {
-    let present = values(s);
-    let permanent = values(&s[9..]);
-    let locked = locks(&s[18..]);
     Table {
-        present,
-        permanent,
-        locked,
+        present: part::<PARAMETER_COUNT>(s),
+        permanent: part::<PARAMETER_COUNT>(&s[PARAMETER_COUNT..]),
+        locked: locks(&s[VALUES_SIZE..]),
     }
 }
 
@@ -292,40 +241,40 @@ fn put_table(table: Table, room: &mut [u8])
     requires { table_size ≤ length room.old }
     ensures { PutsTable table room.old room.new }
 {
-    let present = table.present;
-    let permanent = table.permanent;
-    let locked = table.locked;
-    words::copy(&present, room);
-    words::copy(&permanent, &mut room[9..]);
-    put_locks(locked, &mut room[18..]);
+    put(&table.present, room);
+    put(&table.permanent, &mut room[PARAMETER_COUNT..]);
+    put(&lock_bytes(table.locked), &mut room[VALUES_SIZE..]);
 }
 
 fn device(s: &[u8]) -> Device
     requires { device_size ≤ length s.now }
     ensures { DeviceIn s.now result }
 {
-    let table = table(s);
     let switches = commands::Switches {
-        scanning: s[27] == 1,
-        session: s[28] == 1,
-        aim: s[29] == 1,
-        led: s[30] == 1,
+        scanning: s[TABLE_SIZE] == 1,
+        session: s[TABLE_SIZE + 1] == 1,
+        aim: s[TABLE_SIZE + 2] == 1,
+        led: s[TABLE_SIZE + 3] == 1,
     };
-    Device { table, switches }
+    Device {
+        table: table(s),
+        switches,
+    }
 }
 
 fn put_device(device: Device, room: &mut [u8])
     requires { device_size ≤ length room.old }
     ensures { PutsDevice device room.old room.new }
 {
-    let table = device.table;
     let switches = device.switches;
-    let scanning = flag(switches.scanning);
-    let session = flag(switches.session);
-    let aim = flag(switches.aim);
-    let led = flag(switches.led);
-    put_table(table, room);
-    put_four(scanning, session, aim, led, &mut room[27..]);
+    let flags = [
+        u8::from(switches.scanning),
+        u8::from(switches.session),
+        u8::from(switches.aim),
+        u8::from(switches.led),
+    ];
+    put_table(device.table, room);
+    put(&flags, &mut room[TABLE_SIZE..]);
 }
 
 // What is switched on: scanning, session, aim, LED.
@@ -333,26 +282,23 @@ pub(crate) fn switches(device: Device, values: &mut [usize; 4])
     ensures { Switches device values.new }
 {
     let switches = device.switches;
-    let scanning = words::wide(flag(switches.scanning));
-    let session = words::wide(flag(switches.session));
-    let aim = words::wide(flag(switches.aim));
-    let led = words::wide(flag(switches.led));
-    *values = [scanning, session, aim, led];
+    *values = [
+        usize::from(switches.scanning),
+        usize::from(switches.session),
+        usize::from(switches.aim),
+        usize::from(switches.led),
+    ];
 }
 
 pub(crate) fn reader(s: &[u8]) -> Reader
     requires { reader_control_size ≤ length s.now }
     ensures { ReaderIn s.now result }
 {
-    let line = halves(s);
-    let last_answer = number(&s[18..]);
-    let device = device(&s[26..]);
-    let sender = sender(&s[57..]);
     Reader {
-        line,
-        last_answer,
-        device,
-        sender,
+        line: halves(s),
+        last_answer: number(&s[HALVES_SIZE..]),
+        device: device(&s[READER_FRONT..]),
+        sender: sender(&s[READER_SENDER..]),
     }
 }
 
@@ -360,13 +306,10 @@ pub(crate) fn put_reader(reader: Reader, room: &mut [u8])
     requires { reader_control_size ≤ length room.old }
     ensures { PutsReader reader room.old room.new }
 {
-    let line = reader.line;
-    let device = reader.device;
-    let sender = reader.sender;
-    put_halves(line, room);
-    put_number(reader.last_answer, &mut room[18..]);
-    put_device(device, &mut room[26..]);
-    put_sender(sender, &mut room[57..]);
+    put_halves(reader.line, room);
+    put_number(reader.last_answer, &mut room[HALVES_SIZE..]);
+    put_device(reader.device, &mut room[READER_FRONT..]);
+    put_sender(reader.sender, &mut room[READER_SENDER..]);
 }
 
 // Whether a reader's permanent values differ from those that stand in control bytes.
@@ -374,16 +317,5 @@ pub(crate) fn permanent_changed(s: &[u8], after: Reader) -> bool
     requires { reader_control_size ≤ length s.now }
     ensures { PermanentChanged s.now after result }
 {
-    let device = after.device;
-    let table = device.table;
-    let permanent = table.permanent;
-    let mut i = 0;
-    while i < PARAMETER_COUNT {
-        if s[35 + i] == permanent[i] {
-            i += 1;
-        } else {
-            return true;
-        }
-    }
-    false
+    part::<PARAMETER_COUNT>(&s[READER_PERMANENT..]) != after.device.table.permanent
 }

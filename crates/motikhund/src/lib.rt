@@ -130,7 +130,7 @@ pub extern "C" fn mk_go_on(
     ensures { GoesOn control.old line.old event result control.new line.new }
 {
     let before = control::framer(control);
-    let second = control[9] == 1;
+    let second = control[FRAMER_CONTROL_SIZE] == 1;
     match framer::go_on(before, second, line, numbers::event(event)) {
         framer::Going::On(count) => {
             control::put_number(count, control);
@@ -503,7 +503,7 @@ pub extern "C" fn mk_reader_locked(control: &[u8], number: u8, value: &mut usize
     let before = control::reader(control);
     let device = before.device;
     let table = device.table;
-    *value = words::wide(control::flag(table::locked(table, number)));
+    *value = usize::from(table::locked(table, number));
     0
 }
 

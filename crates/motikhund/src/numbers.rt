@@ -1,7 +1,6 @@
 // Events and answers as numbers: specs/Numbers.antt has a line for each case of each enum.
 ghost use Rattle.motikhund.specs.Numbers.{EventOf, HeardOf, HeardNumber, ReplyOf, RefusalNumber, HeadValues, CheckedNumber, CheckedValues, FoundNumber, FoundValues, BuiltNumber, HubNumber, HubValues, OutcomeNumber, OutcomeValue, OutcomeGap, StartValues, OutcomeRefused, ReaderNumber, RowOf, ReaderRow, ReaderValues, WrittenNumber, WrittenSize, VerdictNumber, Unread};
 
-use crate::control;
 use commands::Beep;
 use framer::{Event, Found};
 use packet::{Built, Checked, Head, Refusal, Reply};
@@ -178,7 +177,7 @@ pub(crate) fn start_values(outcome: Outcome, values: &mut [usize; 2])
     ensures { StartValues outcome values.new }
 {
     let value = outcome_value(outcome);
-    let gap = words::wide(control::flag(outcome_gap(outcome)));
+    let gap = usize::from(outcome_gap(outcome));
     *values = [value, gap];
 }
 
@@ -258,7 +257,7 @@ pub(crate) fn reader_values(
     let pitch = row[1];
     let count = row[2];
     let value = outcome_value(sent);
-    let permanent = words::wide(control::flag(changed));
+    let permanent = usize::from(changed);
     *values = [answer, duration, pitch, count, value, permanent];
 }
 

@@ -129,12 +129,10 @@ fn struct_of(table: Table) -> MkTable
 {
     let present = table.present;
     let permanent = table.permanent;
-    let locked = table.locked;
-    let mut bytes = [0u8; PARAMETER_COUNT];
-    control::put_locks(locked, &mut bytes);
+    let locked = control::lock_bytes(table.locked);
     MkTable {
         present,
         permanent,
-        locked: bytes,
+        locked,
     }
 }

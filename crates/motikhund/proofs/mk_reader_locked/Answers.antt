@@ -8,4 +8,4 @@ pub returns-then-control-lt-READER_CONTROL_SIZE : goal.returns-then-control-lt-R
 returns-then-control-lt-READER_CONTROL_SIZE c = locked_13 (here (omega arith))
 
 pub returns : goal.returns
-returns c = reader_locked (omega arith) c.reader-before.ensures c.locked.ensures c.flag.ensures c.wide.ensures
+returns c = reader_locked (omega arith) c.reader-before.ensures c.locked.ensures c.from.ensures

@@ -3,4 +3,4 @@ use Rattle.motikhund.proofs.Reading.{device_in_lem}
 use Rattle.motikhund.proofs.control.device.Goals as goal
 
 pub returns : goal.returns
-returns c = device_in_lem c.table-table.ensures
+returns c = device_in_lem c.table.ensures

@@ -1,6 +1,6 @@
 -- `motikhund::control::put_hub` meets its contract: what is gathered behind the line. Assumes nothing.
-use Rattle.motikhund.proofs.Storing.{hub_put}
 use native.Mathlib.Omega.{arith}
+use Rattle.motikhund.proofs.Storing.{hub_put}
 use Rattle.motikhund.proofs.control.put_hub.Goals as goal
 
 pub returns : goal.returns

@@ -1,6 +1,6 @@
 -- `motikhund::control::put_reader` meets its contract: number, device and sender behind the line. Assumes nothing.
-use Rattle.motikhund.proofs.Storing.{reader_put}
 use mathlib.Core.Path.{refl}
+use Rattle.motikhund.proofs.Storing.{reader_put}
 use Rattle.motikhund.proofs.control.put_reader.Goals as goal
 
 pub returns : goal.returns

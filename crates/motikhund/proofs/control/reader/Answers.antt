@@ -3,4 +3,4 @@ use Rattle.motikhund.proofs.Reading.{reader_in_lem}
 use Rattle.motikhund.proofs.control.reader.Goals as goal
 
 pub returns : goal.returns
-returns c = reader_in_lem c.halves-line.ensures c.number-last_answer.ensures c.device-device.ensures c.sender-sender.ensures
+returns c = reader_in_lem c.halves.ensures c.number.ensures c.device.ensures c.sender.ensures

@@ -3,4 +3,4 @@ use Rattle.motikhund.proofs.Reading.{table_in_lem}
 use Rattle.motikhund.proofs.control.table.Goals as goal
 
 pub returns : goal.returns
-returns c = table_in_lem c.values-present.ensures c.values-permanent.ensures c.locks-locked.ensures
+returns c = table_in_lem c.part.ensures c.part-2.ensures c.locks.ensures

@@ -3,4 +3,4 @@ use Rattle.motikhund.proofs.Telling.{start_values_lem}
 use Rattle.motikhund.proofs.numbers.start_values.Goals as goal
 
 pub returns : goal.returns
-returns c = start_values_lem c.outcome_value-value.ensures c.outcome_gap.ensures c.flag.ensures c.wide-gap.ensures
+returns c = start_values_lem c.outcome_value-value.ensures c.outcome_gap.ensures c.from-gap.ensures
