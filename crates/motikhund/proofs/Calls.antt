@@ -3,19 +3,20 @@ use Prim.Native.Nat.{ℕ, ◌≤◌, ◌<◌}
 use mathlib.Core.Path.{◌≡◌, refl, sym, ◌∙◌}
 use mathlib.Core.Bool.{Bool, true, false}
 use mathlib.Core.List.{List, [], ◌∷◌}
+use mathlib.Core.Logic.{◌⊎◌, inl, inr}
 use native.Mathlib.Omega.{arith}
 use lib.ListN.{length, drop}
 use borrow.Author.Tests.{le-leb, lt-leb, le-ltb, lt-ltb}
-use Rattle.words.specs.Lists.{Wide, over}
+use Rattle.std.proofs.Common.{Result, Ok, Err}
+use Rattle.words.specs.Lists.{over}
 use Rattle.words.proofs.Lists.{never}
 use Rattle.packet.specs.Refusals.{number_of}
 use Rattle.packet.specs.declared.Refusal.{Refusal}
 use Rattle.packet.specs.declared.Refusal.TheVariants as refusal
 use Rattle.packet.specs.Promises as packet
 use Rattle.packet.specs.Sizes.{packet_size, answer_size, message_size}
-use Rattle.packet.specs.declared.Checked.{Checked}
+use Rattle.packet.specs.declared.Head.{Head}
 use Rattle.packet.specs.declared.Reply.{Reply}
-use Rattle.packet.specs.declared.Built.{Built}
 use Rattle.framer.specs.Promises as framing
 use Rattle.framer.specs.Halves as halves
 use Rattle.framer.specs.declared.Event.{Event}
@@ -42,21 +43,15 @@ use Rattle.table.specs.Table.{Outcome as Settled, done, refused as unsettled}
 use Rattle.table.specs.Promises as settings
 use Rattle.table.specs.Promises.{changed_of}
 use Rattle.table.specs.declared.Table.{Table}
-use Rattle.table.specs.declared.Changed.{Changed}
-use Rattle.table.specs.declared.Verdict.{Verdict}
-use Rattle.table.specs.declared.Verdict.TheVariants as verdict
-use Rattle.table.specs.declared.Written.{Written}
 use Rattle.saved.specs.Saved.{edition1, read_form}
 use Rattle.saved.specs.Promises as saved
 use Rattle.reader.specs.Promises as reading
 use Rattle.reader.specs.declared.Reader.{Reader}
 use Rattle.reader.specs.declared.Taken.{Taken as Commanded}
 use Rattle.reader.specs.declared.Started.{Started}
-use Rattle.reader.specs.declared.Loaded.{Loaded}
-use Rattle.reader.proofs.Loading as loading
 use Rattle.motikhund.specs.Lent.{Need, at_least, Lacking, here, there, Enough, none, more, Asks, IfNamed, KeptUnless, Kept, Made}
 use Rattle.motikhund.specs.Control.{sender_control_size, reader_control_size, number_in, number_bytes, flag_in, flag_byte, framer_in, framer_bytes, hub_in, hub_bytes, sender_in, sender_bytes, reader_in, reader_bytes, FramerIn, PutsNumber, PutsFramer, HubIn, PutsHub, SenderIn, PutsSender, ReaderIn, PutsReader, Switches, PermanentChanged}
-use Rattle.motikhund.specs.Numbers.{is_event, is_reply, no_head, EventOf, HeardOf, HeardNumber, ReplyOf, CheckedNumber, CheckedValues, FoundNumber, FoundValues, BuiltNumber, HubNumber, HubValues, OutcomeNumber, OutcomeValue, StartValues, is_refused, OutcomeRefused, waits_number, ReaderNumber, ReaderValues, verdict_number, is_unread, WrittenNumber, WrittenSize, VerdictNumber, Unread, settled_number}
+use Rattle.motikhund.specs.Numbers.{is_event, is_reply, no_head, EventOf, HeardOf, HeardNumber, ReplyOf, RefusalNumber, result_number, ResultNumber, CheckedValues, FoundNumber, FoundValues, HubNumber, HubValues, OutcomeNumber, OutcomeValue, StartValues, is_refused, OutcomeRefused, waits_number, ReaderNumber, ReaderValues, settled_number}
 use Rattle.motikhund.specs.Promises.{PacketChecks, PacketBuilds, PacketAnswers, FramerHears, GoesOn, HubHears, HubTakesBlock, HubHearsBlock, Brings, Begins, SenderStarts, SenderHears, SenderWaits, SenderHeeds, FreshReader, ReaderStarts, ReaderTimesOut, ReaderHears, ReaderValue, ReaderLocked, ReaderSaves, ReaderLoads, ReaderSwitches}
 use Rattle.motikhund.proofs.Reading.{number_back, framer_back, hub_back, sender_back, reader_back}
 
@@ -66,6 +61,17 @@ use Rattle.motikhund.proofs.Reading.{number_back, framer_back, hub_back, sender_
 lacking_enough : {needs : List Need} → Lacking needs → Enough needs → ⊥
 lacking_enough (here h) (more l e) = omega arith
 lacking_enough (there k) (more l e) = lacking_enough k e
+
+-- One of two, or of three, is too small.
+pub one_of_2 : {n m : ℕ} {s t : List ℕ} {needs : List Need} → (length s < n) ⊎ ((n ≤ length s) × (length t < m)) → Lacking (at_least n s ∷ at_least m t ∷ needs)
+one_of_2 (inl h) = here h
+one_of_2 (inr h) = there (here h.1)
+
+pub one_of_3 : {n m k : ℕ} {s t u : List ℕ} {needs : List Need} →
+    (length s < n) ⊎ (((n ≤ length s) × (length t < m)) ⊎ ((n ≤ length s) × (m ≤ length t) × (length u < k))) → Lacking (at_least n s ∷ at_least m t ∷ at_least k u ∷ needs)
+one_of_3 (inl h) = here h
+one_of_3 (inr (inl h)) = there (here h.1)
+one_of_3 (inr (inr h)) = there (there (here h.2))
 
 module _ {needs : List Need} {Refuses Takes : Type 0} where
   pub asks_13 : Lacking needs → Refuses → Asks needs Refuses Takes
@@ -173,11 +179,11 @@ reader_woken l before-is powers put = made l (rw before-is.is at powers) (reader
 
 -- ---- the packet
 
-pub packet_checks : {s head : List ℕ} {r : ℕ} {found : Checked} → packet.Check s found → CheckedNumber found r → CheckedValues found head → PacketChecks s r head
+pub packet_checks : {s head : List ℕ} {r : ℕ} {found : Result Head Refusal} → packet.Check s found → ResultNumber found 100 r → CheckedValues found head → PacketChecks s r head
 packet_checks {found = found} checks told values = record { found = found; checks = checks; told = told.is; values = values.is }
 
-pub packet_builds : {room carried room' : List ℕ} {opcode source status r size : ℕ} {made : Built} → packet.Build room opcode source status carried made room' →
-    BuiltNumber made r → packet.SizeOf made size → PacketBuilds room opcode source status carried r room' size
+pub packet_builds : {room carried room' : List ℕ} {opcode source status r size : ℕ} {made : Result ℕ Refusal} → packet.Build room opcode source status carried made room' →
+    ResultNumber made 101 r → packet.SizeOf made size → PacketBuilds room opcode source status carried r room' size
 packet_builds {made = made} builds told value = record { made = made; builds = builds; told = told.is; value = value.is }
 
 pub answer_13 : {room : List ℕ} {source n : ℕ} → length room < answer_size → PacketAnswers room source n 13 room 0
@@ -186,9 +192,9 @@ answer_13 l = record { asks = asks_13 (here l) (refl, refl, refl) }
 pub answer_none : {room : List ℕ} {source n : ℕ} → answer_size ≤ length room → 256 < n → PacketAnswers room source n 0 room 0
 answer_none l m = record { asks = asks_enough (more l none) (passed (no_reply m) (refl, refl, refl)) }
 
-pub packet_answers : {room room' : List ℕ} {source n r size : ℕ} {reply : Reply} {made : Built} → answer_size ≤ length room → n ≤ 256 → ReplyOf n reply →
+pub packet_answers : {room room' : List ℕ} {source n r size : ℕ} {reply : Reply} {made : Result ℕ Refusal} → answer_size ≤ length room → n ≤ 256 → ReplyOf n reply →
     packet.Answer room source reply made room' →
-    BuiltNumber made r →
+    ResultNumber made 101 r →
     packet.SizeOf made size →
     PacketAnswers room source n r room' size
 packet_answers {made = made} l m reply answers told value =
@@ -266,7 +272,7 @@ module _ {control line gather answer message : List ℕ} {n : ℕ} (c : 29 ≤ l
       }
 
 -- A block.
-pub block_13 : {control line gather answer message bytes : List ℕ} → Lacking (at_least 29 control ∷ []) →
+block_13 : {control line gather answer message bytes : List ℕ} → Lacking (at_least 29 control ∷ []) →
     HubHearsBlock control line gather answer message bytes 13 control line gather answer message (0 ∷ 0 ∷ 0 ∷ 0 ∷ [])
 block_13 k = record { asks = asks_13 k (refl, refl, refl, refl, refl, refl, refl) }
 
@@ -277,12 +283,12 @@ module _ {control line gather answer message bytes : List ℕ} (c : 29 ≤ lengt
   block_unread x hears =
       record { asks = asks_enough (more c none) (record { block = refused_block (hub_in control) x; hears = hears; told = refl; values_are = refl; kept = record { control_is = refl; reads = refl } }) }
 
-  pub block_answer : length answer < joining.hub_answer_size → HubHearsBlock control line gather answer message bytes 13 control line gather answer message (0 ∷ 0 ∷ 0 ∷ 0 ∷ [])
+  block_answer : length answer < joining.hub_answer_size → HubHearsBlock control line gather answer message bytes 13 control line gather answer message (0 ∷ 0 ∷ 0 ∷ 0 ∷ [])
   unfolding joining.too_small
   block_answer h = block_unread refusal.Room (blocks.block_13 (simp (lt-ltb (length answer) joining.hub_answer_size h)))
 
   module _ (a : joining.hub_answer_size ≤ length answer) where
-    pub block_message : length message < message_size → HubHearsBlock control line gather answer message bytes 13 control line gather answer message (0 ∷ 0 ∷ 0 ∷ 0 ∷ [])
+    block_message : length message < message_size → HubHearsBlock control line gather answer message bytes 13 control line gather answer message (0 ∷ 0 ∷ 0 ∷ 0 ∷ [])
     unfolding joining.too_small
     block_message h = block_unread refusal.Room (blocks.block_13 (simp (le-ltb (length answer) joining.hub_answer_size a, lt-ltb (length message) message_size h)))
 
@@ -290,6 +296,13 @@ module _ {control line gather answer message bytes : List ℕ} (c : 29 ≤ lengt
       pub block_long : block_size < length bytes → HubHearsBlock control line gather answer message bytes 15 control line gather answer message (0 ∷ 0 ∷ 0 ∷ 0 ∷ [])
       unfolding joining.too_small
       block_long h = block_unread refusal.Long (blocks.block_15 (simp (le-ltb (length answer) joining.hub_answer_size a, le-ltb (length message) message_size m)) h)
+
+pub block_small : {control line gather answer message bytes : List ℕ} →
+    (length control < 29) ⊎ (((29 ≤ length control) × (length answer < joining.hub_answer_size)) ⊎ ((29 ≤ length control) × (joining.hub_answer_size ≤ length answer) × (length message < message_size))) →
+    HubHearsBlock control line gather answer message bytes 13 control line gather answer message (0 ∷ 0 ∷ 0 ∷ 0 ∷ [])
+block_small (inl h) = block_13 (here h)
+block_small (inr (inl h)) = block_answer h.0 h.1
+block_small (inr (inr h)) = block_message h.0 h.1 h.2
 
 pub block_reads : {control line gather answer message bytes control' line' gather' answer' message' values : List ℕ} {r : ℕ} → 29 ≤ length control →
     HubTakesBlock control line gather answer message bytes r control' line' gather' answer' message' values → HubHearsBlock control line gather answer message bytes r control' line' gather' answer' message' values
@@ -419,8 +432,8 @@ pub value_13 : {control : List ℕ} {number : ℕ} → Lacking (at_least reader_
 value_13 k = record { asks = asks_13 k (refl, refl) }
 
 pub reader_value : {control : List ℕ} {number shown value : ℕ} {before : Reader} → reader_control_size ≤ length control → ReaderIn control before →
-    settings.Value before.device.table number shown → Wide shown value → ReaderValue control number 0 value
-reader_value c before-is shows wide = record { asks = asks_enough (more c none) (record { shows = rw (before-is.is, ← wide.is) at shows; told = refl }) }
+    settings.Value before.device.table number shown → value ≡ shown → ReaderValue control number 0 value
+reader_value c before-is shows same = record { asks = asks_enough (more c none) (record { shows = rw (before-is.is, ← same) at shows; told = refl }) }
 
 pub switches_13 : {control : List ℕ} → Lacking (at_least reader_control_size control ∷ []) → ReaderSwitches control 13 (0 ∷ 0 ∷ 0 ∷ 0 ∷ [])
 switches_13 k = record { asks = asks_13 k (refl, refl) }
@@ -441,42 +454,44 @@ reader_locked {held = held} c before-is locked value =
 pub save_13 : {control room : List ℕ} → Lacking (at_least reader_control_size control ∷ []) → ReaderSaves control room 13 room 0
 save_13 k = record { asks = asks_13 k (refl, refl, refl) }
 
-pub reader_saves : {control room room' : List ℕ} {r size : ℕ} {made : Written} {before : Reader} → reader_control_size ≤ length control → ReaderIn control before →
-    saved.Saves before.device.table room made room' → WrittenSize made size → WrittenNumber made r → ReaderSaves control room r room' size
+pub reader_saves : {control room room' : List ℕ} {r size : ℕ} {made : Result ℕ Refusal} {before : Reader} → reader_control_size ≤ length control → ReaderIn control before →
+    saved.Saves before.device.table room made room' → packet.SizeOf made size → ResultNumber made 101 r → ReaderSaves control room r room' size
 reader_saves {made = made} c before-is saves size told =
     record { asks = asks_enough (more c none) (record { made = made; saves = rw before-is.is at saves; told = told.is; value = size.is }) }
 
-pub settled_number_lem : (t : Table) (o : Settled) (taken : ℕ) → verdict_number (changed_of t o).verdict taken ≡ settled_number o taken
+pub settled_number_lem : (o : Settled) (taken : ℕ) → result_number (changed_of o) taken ≡ settled_number o taken
 unfolding changed_of
-settled_number_lem t (done v) taken = refl
-settled_number_lem t (unsettled x) taken = refl
+settled_number_lem (done v) taken = refl
+settled_number_lem (unsettled x) taken = refl
 
-pub load_13 : {control form : List ℕ} {t : Table} {read : Changed} {r : ℕ} → Lacking (at_least reader_control_size control ∷ []) → saved.Loads t form read → VerdictNumber read.verdict 13 r →
+pub load_13 : {control form : List ℕ} {read : Result Table Refusal} {r : ℕ} → Lacking (at_least reader_control_size control ∷ []) → saved.Loads form read → ResultNumber read 13 r →
     ReaderLoads control form r control
-load_13 {form = form} {t} k loads told =
-    record { asks = asks_13 k (told.is ∙ (rw loads.is (settled_number_lem t (read_form edition1 form) 13)), refl) }
+load_13 {form = form} k loads told =
+    record { asks = asks_13 k (told.is ∙ (rw loads.is (settled_number_lem (read_form edition1 form) 13)), refl) }
 
-unread_named : {A : Type 0} (v : Verdict) → is_unread v ≡ true → ((x : Refusal) → v ≡ verdict.Refused x → A) → A
-unread_named verdict.Done e k = never (cc)
-unread_named (verdict.Refused x) e k = k x refl
+module _ {control form : List ℕ} {before : Reader} (c : reader_control_size ≤ length control) (before-is : ReaderIn control before) where
+  pub reader_unread : {x : Refusal} {r : ℕ} → reading.Loads before form (Err x) → RefusalNumber x r → ReaderLoads control form r control
+  reader_unread {x} loads told =
+      record {
+        asks =
+            asks_enough (more c none)
+            (record {
+              loaded = Err x;
+              loads = rw before-is.is at loads;
+              told = told.is;
+              kept = alone refl refl refl;
+            });
+      }
 
-read_number : (v : Verdict) → is_unread v ≡ false → 0 ≡ verdict_number v 0
-read_number verdict.Done e = refl
-read_number (verdict.Refused x) e = never (cc)
-
-module _ {control form : List ℕ} {before : Reader} {loaded : Loaded} {unread : Bool} (c : reader_control_size ≤ length control) (before-is : ReaderIn control before)
-    (loads : reading.Loads before form loaded) (is-unread : Unread loaded.verdict unread) where
-  reader_leaves : {control' : List ℕ} {r : ℕ} → KeptUnless (is_unread loaded.verdict) reader_in reader_bytes loaded.reader control control' →
-      VerdictNumber loaded.verdict 0 r → ReaderLoads control form r control'
-  reader_leaves kept told =
-      record { asks = asks_enough (more c none) (record { loaded = loaded; loads = rw before-is.is at loads; told = told.is; kept = kept }) }
-
-  pub reader_unread : {r : ℕ} → unread ≡ true → VerdictNumber loaded.verdict 0 r → ReaderLoads control form r control
-  reader_unread e told =
-      let f = sym is-unread.is ∙ e in
-      reader_leaves (alone f before-is.is (unread_named loaded.verdict f (λ x q. loading.refused_same loads q))) told
-
-  pub reader_loads : {control' : List ℕ} → unread ≡ false → PutsReader loaded.reader control control' → ReaderLoads control form 0 control'
-  reader_loads e put =
-      let f = sym is-unread.is ∙ e in
-      reader_leaves (put_back f (reader_kept put)) (record { is = read_number loaded.verdict f })
+  pub reader_loads : {next : Reader} {control' : List ℕ} → reading.Loads before form (Ok next) → PutsReader next control control' → ReaderLoads control form 0 control'
+  reader_loads {next} loads put =
+      record {
+        asks =
+            asks_enough (more c none)
+            (record {
+              loaded = Ok next;
+              loads = rw before-is.is at loads;
+              told = refl;
+              kept = put_back refl (reader_kept put);
+            });
+      }

@@ -8,16 +8,13 @@ use native.Mathlib.Omega.{arith}
 use lib.Dec.{eqb, ltb}
 use lib.ListN.{length}
 use borrow.Author.Tests.{le-ltb, eq-eqb, ne_eqb, eqb-true, eqb-false}
+use Rattle.std.proofs.Common.{Result, Ok, Err}
 use Rattle.words.specs.Lists.{pick, over, Each, none, one}
 use Rattle.words.proofs.Lists.{over_nil, never, same_refl}
 use Rattle.packet.specs.Packet.{body_of, seal, reply_body, written, size_of}
 use Rattle.packet.specs.Refusals.{number_of}
 use Rattle.packet.specs.declared.Refusal.{Refusal}
 use Rattle.packet.specs.declared.Refusal.TheVariants as refusal
-use Rattle.packet.specs.declared.Checked.{Checked}
-use Rattle.packet.specs.declared.Checked.TheVariants as checked
-use Rattle.packet.specs.declared.Built.{Built}
-use Rattle.packet.specs.declared.Built.TheVariants as built
 use Rattle.framer.specs.declared.Found.{Found}
 use Rattle.framer.specs.declared.Found.TheVariants as found
 use Rattle.framer.proofs.Refusing as framing
@@ -30,10 +27,6 @@ use Rattle.sender.specs.declared.Outcome.{Outcome}
 use Rattle.sender.specs.declared.Outcome.TheVariants as outcome
 use Rattle.sender.proofs.Refusing as sending
 use Rattle.table.specs.Table.{Outcome as Settled, done, refused as unsettled}
-use Rattle.table.specs.declared.Verdict.{Verdict}
-use Rattle.table.specs.declared.Verdict.TheVariants as verdict
-use Rattle.table.specs.declared.Written.{Written}
-use Rattle.table.specs.declared.Written.TheVariants as made
 use Rattle.saved.specs.Saved.{edition1, read_form}
 use Rattle.saved.proofs.Writing.{save_refused}
 use Rattle.saved.proofs.Theorems.{read_refusal}
@@ -46,7 +39,7 @@ use Rattle.reader.proofs.Refusing as reading-refuses
 use Rattle.reader.proofs.Loading as loading
 use Rattle.motikhund.specs.Lent.{Need, at_least, Enough, none as no_more, more, Asks, IfNamed, KeptUnless, Made}
 use Rattle.motikhund.specs.Control.{reader_control_size, reader_in, permanent_changed}
-use Rattle.motikhund.specs.Numbers.{reply_of, RefusalNumber, checked_number, checked_values, found_number, found_values, built_number, hub_number, hub_values, block_values, outcome_number, start_values, is_refused, waits_number, reader_number, reader_values, written_number, verdict_number, settled_number}
+use Rattle.motikhund.specs.Numbers.{reply_of, RefusalNumber, result_number, checked_values, found_number, found_values, hub_number, hub_values, block_values, outcome_number, start_values, is_refused, waits_number, reader_number, reader_values, settled_number}
 use Rattle.motikhund.specs.Promises.{PacketChecks, PacketBuilds, PacketAnswers, FramerIdle, FramerHears, HubOn, HubHears, HubHearsBlock, SenderIdle, SenderStarts, SenderHears, SenderWaits, ReaderOn, ReaderPowersUp, ReaderStarts, ReaderTimesOut, ReaderHears, ReaderValue, ReaderLocked, ReaderSaves, ReaderLoads, ReaderSwitches}
 use Rattle.motikhund.specs.Tables.{values_in, all_allowed, SetsTable, TakesOut, PutsInto, PutsBack}
 use Rattle.motikhund.specs.declared.tables.MkTable.{MkTable}
@@ -140,18 +133,14 @@ told_as e q = record { is = sym e ∙ q.is }
 
 -- ---- a told number that is a refusal's tells that refusal
 
-checked_refused : (c : Checked) {x : Refusal} → RefusalNumber x (checked_number c) → c ≡ checked.Refused x
-checked_refused (checked.Packet head) e = not_told e (inr (omega arith))
-checked_refused (checked.Refused y) e = ap checked.Refused (same_number e)
+result_refused : {A : Type 0} (made : Result A Refusal) {n : ℕ} {x : Refusal} → (n < 1) ⊎ (15 < n) → RefusalNumber x (result_number made n) → made ≡ Err x
+result_refused (Ok a) h e = not_told e h
+result_refused (Err y) h e = ap Err (same_number e)
 
 found_refused : (f : Found) {x : Refusal} → RefusalNumber x (found_number f) → f ≡ found.Refused x
 found_refused found.Nothing e = not_told e (inl (omega arith))
 found_refused (found.Packet head) e = not_told e (inr (omega arith))
 found_refused (found.Refused y) e = ap found.Refused (same_number e)
-
-built_refused : (b : Built) {x : Refusal} → RefusalNumber x (built_number b) → b ≡ built.Refused x
-built_refused (built.Written size) e = not_told e (inr (omega arith))
-built_refused (built.Refused y) e = ap built.Refused (same_number e)
 
 hub_refused : (t : Told) {x : Refusal} → RefusalNumber x (hub_number t) → t ≡ told.Refused x
 hub_refused told.Nothing e = not_told e (inl (omega arith))
@@ -212,21 +201,21 @@ zeros_6 e = rw e (one refl (one refl (one refl (one refl (one refl (one refl non
 -- `mk_check`: the bytes are only read.
 pub check_refuses : {s head : List ℕ} {r : ℕ} {x : Refusal} → PacketChecks s r head → RefusalNumber x r → Untouched [] head
 check_refuses {head = head} k q =
-    let f = checked_refused k.found (told_as k.told q) in
+    let f = result_refused k.found (inr (omega arith)) (told_as k.told q) in
     record { buffers_same = none; values_zero = zeros_4 (k.values ∙ ap checked_values f) }
 
-nothing_written : (room packet : List ℕ) {b : Built} {x : Refusal} → b ≡ built.Refused x → over (written b packet) room ≡ room
+nothing_written : (room packet : List ℕ) {b : Result ℕ Refusal} {x : Refusal} → b ≡ Err x → over (written b packet) room ≡ room
 unfolding written
 nothing_written room packet f = rw f (over_nil room)
 
-room_untouched : {room room' : List ℕ} {size : ℕ} {b : Built} {x : Refusal} → b ≡ built.Refused x → room' ≡ room → size ≡ size_of b → Untouched (lent room room' ∷ []) (size ∷ [])
+room_untouched : {room room' : List ℕ} {size : ℕ} {b : Result ℕ Refusal} {x : Refusal} → b ≡ Err x → room' ≡ room → size ≡ size_of b → Untouched (lent room room' ∷ []) (size ∷ [])
 room_untouched f e v = record { buffers_same = one (same e) none; values_zero = zeros_1 (v ∙ ap size_of f) }
 
 -- `mk_build`: no byte of the room is written.
 pub build_refuses : {room carried room' : List ℕ} {opcode source status r size : ℕ} {x : Refusal} → PacketBuilds room opcode source status carried r room' size → RefusalNumber x r →
     Untouched (lent room room' ∷ []) (size ∷ [])
 build_refuses {room} {carried} {opcode = opcode} {source} {status} k q =
-    let f = built_refused k.made (told_as k.told q) in
+    let f = result_refused k.made (inr (omega arith)) (told_as k.told q) in
     room_untouched f (k.builds.room_is ∙ nothing_written room (seal (body_of opcode source status carried)) f) k.value
 
 -- `mk_answer`
@@ -237,7 +226,7 @@ answer_refuses {room} {source = source} {reply} k q =
     (λ e n.
     by_named q n (λ a. a.0)
     (λ a.
-    let f = built_refused a.made (told_as a.told q) in
+    let f = result_refused a.made (inr (omega arith)) (told_as a.told q) in
     room_untouched f (a.answers.room_is ∙ nothing_written room (seal (reply_body source (reply_of reply))) f) a.value))
 
 -- ---- calls that make a control value
@@ -296,19 +285,14 @@ reader_locked_refuses k q =
 one_untouched : {room room' : List ℕ} {value : ℕ} → room' ≡ room → value ≡ 0 → Untouched (lent room room' ∷ []) (value ∷ [])
 one_untouched s v = record { buffers_same = one (same s) none; values_zero = zeros_1 v }
 
-written_refused : {A : Type 0} {n : ℕ} {x : Refusal} (w : Written) → n ≡ written_number w → RefusalNumber x n → ((y : Refusal) → w ≡ made.Refused y → A) → A
-written_refused (made.Bytes size) e q k = not_told (told_as e q) (inr (omega arith))
-written_refused (made.Refused y) e q k = k y refl
-
 pub reader_save_refuses : {control room room' : List ℕ} {r size : ℕ} {x : Refusal} → ReaderSaves control room r room' size → RefusalNumber x r →
     Refuses13 r (lent room room' ∷ []) (size ∷ [])
 reader_save_refuses k q =
     by_asks k.asks (λ a. record { number = a.0; untouched = one_untouched a.1 a.2 })
     (λ e a.
-    written_refused a.made a.told q
-    (λ y f.
+    let f = result_refused a.made (inr (omega arith)) (told_as a.told q) in
     let s = save_refused a.saves f in
-    record { number = a.told ∙ rw (f, s.0) refl; untouched = one_untouched s.1 (a.value ∙ rw f refl) }))
+    record { number = a.told ∙ rw (f, s.0) refl; untouched = one_untouched s.1 (a.value ∙ rw f refl) })
 
 -- `mk_reader_load`: the form is only read.
 unread_number : {r : ℕ} (o : Settled) → ((x : Refusal) → o ≡ unsettled x → x ≡ refusal.Form) → r ≡ settled_number o 13 → (r ≡ 12) ⊎ (r ≡ 13)
@@ -318,21 +302,16 @@ unread_number (unsettled x) k e = inl (e ∙ ap number_of (k x refl))
 load_untouched : {control control' : List ℕ} → control' ≡ control → Untouched (lent control control' ∷ []) []
 load_untouched e = record { buffers_same = one (same e) none; values_zero = none }
 
-verdict_refused : {A : Type 0} {n : ℕ} {x : Refusal} (v : Verdict) → n ≡ verdict_number v 0 → RefusalNumber x n → ((y : Refusal) → v ≡ verdict.Refused y → A) → A
-verdict_refused verdict.Done e q k = not_told (told_as e q) (inl (omega arith))
-verdict_refused (verdict.Refused y) e q k = k y refl
-
 pub reader_load_refuses : {control form control' : List ℕ} {r : ℕ} {x : Refusal} → ReaderLoads control form r control' → RefusalNumber x r → RefusesBy 12 13 r (lent control control' ∷ []) []
 reader_load_refuses {form = form} k q =
     by_asks k.asks
     (λ a. record { number = unread_number (read_form edition1 form) (λ x f. read_refusal edition1 form f) a.0; untouched = load_untouched a.1 })
     (λ e a.
-    verdict_refused a.loaded.verdict a.told q
-    (λ y f.
+    let f = result_refused a.loaded (inl (omega arith)) (told_as a.told q) in
     record {
       number = inl (a.told ∙ rw (f, loading.refused_form a.loads f) refl);
       untouched = load_untouched (a.kept.control_is ∙ rw f refl);
-    }))
+    })
 
 -- ---- a table that is kept as a struct
 

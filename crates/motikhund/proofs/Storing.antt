@@ -1,10 +1,10 @@
 -- What the stores of a control value leave: each part behind the one before it. Assumes nothing.
-use Prim.Native.Nat.{ℕ, zero, suc, ◌+◌, ◌-◌, ◌/◌, ◌%◌, ◌<◌, ◌≤◌}
-use mathlib.Core.Path.{◌≡◌, refl, sym, ap, ◌∙◌}
-use mathlib.Core.Bool.{Bool, false}
+use Prim.Native.Nat.{ℕ, suc, ◌-◌, ◌<◌, ◌≤◌}
+use mathlib.Core.Path.{◌≡◌, refl, ap, ◌∙◌}
+use mathlib.Core.Bool.{Bool}
 use mathlib.Core.List.{List, [], ◌∷◌, ◌++◌, append_assoc}
 use native.Mathlib.Omega.{arith}
-use lib.ListN.{length, get_or, take, drop, set, length-append, length-take, length-drop}
+use lib.ListN.{length, take, drop, set, length-append}
 use Rattle.std.specs.Int.{w64, to_le_bytes}
 use Rattle.words.specs.Lists.{over, Over}
 use Rattle.words.proofs.Lists.{back, behind, length_over, over_behind, set_over_at}

@@ -1,28 +1,29 @@
 -- What the calls on a table that is kept as a struct leave, from what the table's own calls promise. Assumes nothing.
 use Prim.Native.Nat.{ℕ, ◌≤◌}
-use mathlib.Core.Path.{◌≡◌, refl, sym, ◌∙◌}
+use mathlib.Core.Path.{◌≡◌, refl, sym, ap, ◌∙◌}
 use mathlib.Core.Bool.{Bool, true, false}
-use mathlib.Core.List.{List, [], ◌∷◌, append-nil}
+use mathlib.Core.List.{List, [], ◌∷◌}
 use native.Mathlib.Omega.{arith}
-use lib.ListN.{length, drop_of_length-le}
+use lib.ListN.{length}
 use lib.Seq.{take_all}
-use Rattle.words.specs.Lists.{over}
+use Rattle.words.proofs.Lists.{never}
 use Rattle.packet.specs.declared.Refusal.TheVariants as refusal
 use Rattle.table.specs.Rows.{parameter_count}
 use Rattle.table.specs.Table.{Outcome as Settled, done, refused, read_pairs, set_pairs}
-use Rattle.table.specs.Promises.{values_of, changed_of, Sets, SetsDefaults, PowerUp}
+use Rattle.table.specs.Promises.{values_of, table_of as table_of_values, changed_of, Sets, SetsDefaults, PowerUp}
 use Rattle.table.specs.declared.Table.{Table}
-use Rattle.table.specs.declared.Changed.{Changed}
+use Rattle.packet.specs.Refusals.{number_of}
+use Rattle.packet.specs.declared.Refusal.{Refusal}
+use Rattle.std.proofs.Common.{Ok, Err}
 use Rattle.saved.specs.Promises as saved
 use Rattle.reader.specs.Promises as reading
 use Rattle.reader.specs.declared.Reader.{Reader}
 use Rattle.motikhund.specs.Lent.{at_least, Lacking, none, more}
-use Rattle.motikhund.specs.Control.{flag_bytes, reader_control_size, reader_in, LocksIn, ReaderIn, PutsReader}
-use Rattle.motikhund.specs.Numbers.{VerdictNumber, RefusalNumber}
+use Rattle.motikhund.specs.Control.{reader_control_size, reader_in, LocksIn, ReaderIn, PutsReader}
+use Rattle.motikhund.specs.Numbers.{RefusalNumber, settled_number}
 use Rattle.motikhund.specs.Tables.{table_of, with_values, struct_after, all_allowed, reader_after, TableOf, StructOf, WithValues, AllAllowed, SetsTable, DefaultsTable, PowersUpTable, TakesOut, PutsBack}
 use Rattle.motikhund.specs.declared.tables.MkTable.{MkTable}
-use Rattle.motikhund.proofs.Storing.{flags_long}
-use Rattle.motikhund.proofs.Calls.{asks_13, asks_enough, reader_kept, alone, put_back, settled_number_lem}
+use Rattle.motikhund.proofs.Calls.{asks_13, asks_enough, reader_kept, alone, put_back}
 
 -- ---- the table that a struct stands for
 
@@ -34,9 +35,9 @@ pub both_allowed : {k : MkTable} {present permanent : Bool} → saved.AllAllowed
 unfolding all_allowed
 both_allowed p e q = record { is = q.is ∙ sym (simp (sym p.is ∙ e)) }
 
-pub not_allowed : {k : MkTable} {present : Bool} → saved.AllAllowed k.present present → present ≡ false → AllAllowed k false
+pub not_allowed : {k : MkTable} {present : Bool} → saved.AllAllowed k.present present → present ≡ false → AllAllowed k present
 unfolding all_allowed
-not_allowed p e = record { is = sym (simp (sym p.is ∙ e)) }
+not_allowed p e = record { is = e ∙ sym (simp (sym p.is ∙ e)) }
 
 -- ---- the calls by value
 
@@ -47,19 +48,26 @@ module _ {k r : MkTable} {t next : Table} (stands : TableOf k t) (puts : WithVal
   pub powered_up : PowerUp t next → PowersUpTable k r
   powered_up powers = record { is = puts.is ∙ rw (powers.is, stands.is) refl }
 
-settled : (k : MkTable) (o : Settled) → with_values k (values_of (changed_of (table_of k) o).table) ≡ struct_after k o
+done_set : (k : MkTable) (o : Settled) {next : Table} → Ok next ≡ changed_of o → (0 ≡ settled_number o 0) × (with_values k (values_of next) ≡ struct_after k o)
 unfolding changed_of struct_after
-settled k (done v) = refl
-settled k (refused x) = refl
+done_set k (done v) {next} q = let e : next ≡ table_of_values v = cc in (refl, rw e refl)
+done_set k (refused x) q = never (cc)
 
-pub pairs_set : {k r : MkTable} {t : Table} {pairs : List ℕ} {forever : Bool} {changed : Changed} {told : ℕ} → TableOf k t → Sets t pairs forever changed →
-    WithValues k changed.table r → VerdictNumber changed.verdict 0 told → SetsTable k pairs forever told r
-pairs_set {k} {pairs = pairs} {forever} stands sets puts number =
-    let o : Settled = set_pairs forever (read_pairs pairs) (values_of (table_of k)) in
-    record {
-      told = number.is ∙ rw (sets.is, stands.is) (settled_number_lem (table_of k) o 0);
-      is = puts.is ∙ rw (sets.is, stands.is) (settled k o);
-    }
+refused_set : (k : MkTable) (o : Settled) {x : Refusal} → Err x ≡ changed_of o → (number_of x ≡ settled_number o 0) × (k ≡ struct_after k o)
+unfolding changed_of struct_after
+refused_set k (done v) q = never (cc)
+refused_set k (refused y) {x} q = let e : x ≡ y = cc in (ap number_of e, refl)
+
+module _ {k : MkTable} {t : Table} {pairs : List ℕ} {forever : Bool} (stands : TableOf k t) where
+  pub pairs_set : {next : Table} {r : MkTable} → Sets t pairs forever (Ok next) → WithValues k next r → SetsTable k pairs forever 0 r
+  pairs_set {next} sets puts =
+      let d = done_set k (set_pairs forever (read_pairs pairs) (values_of (table_of k))) (rw stands.is at sets.is) in
+      record { told = d.0; is = puts.is ∙ d.1 }
+
+  pub pairs_refused : {x : Refusal} {n : ℕ} → Sets t pairs forever (Err x) → RefusalNumber x n → SetsTable k pairs forever n k
+  pairs_refused {x} sets number =
+      let d = refused_set k (set_pairs forever (read_pairs pairs) (values_of (table_of k))) (rw stands.is at sets.is) in
+      record { told = number.is ∙ d.0; is = d.1 }
 
 -- ---- from a reader and back
 

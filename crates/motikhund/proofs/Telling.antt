@@ -1,18 +1,16 @@
 -- Events and answers as numbers: what each return of the code gives. Assumes nothing.
 use Prim.Native.Nat.{ℕ, ◌<◌, ◌≤◌}
-use mathlib.Core.Path.{◌≡◌, refl, sym, ap, ◌∙◌}
+use mathlib.Core.Path.{◌≡◌, refl, sym, ap}
 use mathlib.Core.Bool.{Bool}
 use mathlib.Core.List.{List, [], ◌∷◌, ◌++◌}
 use native.Mathlib.Omega.{arith}
 use lib.ListN.{get_or}
 use borrow.Author.Tests.{lt-ltb, le-ltb, eq-eqb, ne_eqb}
-use Rattle.words.specs.Lists.{Wide}
+use Rattle.std.proofs.Common.{Some, None}
 use Rattle.packet.specs.declared.Reply.TheVariants as reply
 use Rattle.framer.specs.declared.Event.TheVariants.{Byte, CharacterGap, MessageGap}
 use Rattle.hub.specs.declared.Told.{Told}
 use Rattle.hub.specs.declared.Told.TheVariants as told
-use Rattle.commands.specs.declared.Beep.{Beep}
-use Rattle.commands.specs.declared.Beep.TheVariants as beep
 use Rattle.commands.specs.declared.Device.{Device}
 use Rattle.reader.specs.declared.Told.{Told as Commanded}
 use Rattle.reader.specs.declared.Told.TheVariants as commanded
@@ -20,7 +18,7 @@ use Rattle.sender.specs.declared.Outcome.{Outcome}
 use Rattle.sender.specs.declared.Heard.{Heard}
 use Rattle.sender.specs.declared.Heard.TheVariants as heard
 use Rattle.motikhund.specs.Control.{flag_byte, Switches}
-use Rattle.motikhund.specs.Numbers.{event_of, heard_of, heard_number, reply_of, hub_values, reader_row, reader_values, EventOf, HeardOf, ReplyOf, HubValues, OutcomeValue, OutcomeGap, StartValues, RowOf, ReaderRow, ReaderValues}
+use Rattle.motikhund.specs.Numbers.{event_of, heard_of, heard_number, reply_of, hub_values, reader_row, reader_values, EventOf, HeardOf, ReplyOf, HubValues, OutcomeValue, OutcomeGap, StartValues, ReaderRow, ReaderValues}
 
 -- ---- an event
 
@@ -77,8 +75,8 @@ reply_ack {n} h = record { is = simp (le-ltb n 256 h) }
 pub hub_bare : {t t' : Told} {answer : ℕ} → t ≡ t' → hub_values t' answer ≡ answer ∷ 0 ∷ 0 ∷ [] → HubValues t answer (answer ∷ 0 ∷ 0 ∷ [])
 hub_bare e k = record { is = rw e (sym k) }
 
-pub hub_message : {t : Told} {answer code count kind : ℕ} → t ≡ told.Message code count → Wide code kind → HubValues t answer (answer ∷ kind ∷ count ∷ [])
-hub_message {answer = answer} {count = count} e k = record { is = rw (e, k.is) refl }
+pub hub_message : {t : Told} {answer code count kind : ℕ} → t ≡ told.Message code count → kind ≡ code → HubValues t answer (answer ∷ kind ∷ count ∷ [])
+hub_message {answer = answer} {count = count} e k = record { is = rw (e, k) refl }
 
 -- ---- what a start told
 
@@ -87,15 +85,12 @@ start_values_lem v g f = record { is = rw (v.is, f, g.is) refl }
 
 -- ---- what the reader told
 
-pub row_of : {b : Beep} {d p n d' p' n' : ℕ} → b ≡ beep.Row d p n → Wide d d' → Wide p p' → Wide n n' → RowOf b (d' ∷ p' ∷ n' ∷ [])
-row_of e d p n = record { is = rw (e, d.is, p.is, n.is) refl }
-
 -- A row has three numbers.
 three_of : (t : Commanded) (rest : List ℕ) → get_or (reader_row t) 0 0 ∷ get_or (reader_row t) 1 0 ∷ get_or (reader_row t) 2 0 ∷ rest ≡ reader_row t ++ rest
 three_of commanded.Nothing rest = refl
 three_of (commanded.Refused r) rest = refl
-three_of (commanded.Acted beep.Silent) rest = refl
-three_of (commanded.Acted (beep.Row d p n)) rest = refl
+three_of (commanded.Acted None) rest = refl
+three_of (commanded.Acted (Some beep)) rest = refl
 three_of commanded.Repeated rest = refl
 
 pub reader_values_lem : {t : Commanded} {o : Outcome} {changed : Bool} {answer value permanent : ℕ} {row : List ℕ} → ReaderRow t row → OutcomeValue o value → permanent ≡ flag_byte changed →

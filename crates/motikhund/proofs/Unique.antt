@@ -7,7 +7,10 @@ use mathlib.Core.Logic.{◌⊎◌, inl, inr, ⊎_elim}
 use lib.Dec.{eqb, ltb}
 use lib.ListN.{length}
 use borrow.Author.Tests.{ltb-true, ltb-false}
+use Rattle.std.proofs.Common.{Result}
 use Rattle.packet.specs.Packet.{size_of}
+use Rattle.packet.specs.declared.Head.{Head}
+use Rattle.packet.specs.declared.Refusal.{Refusal}
 use Rattle.words.specs.Lists.{pick, over}
 use Rattle.packet.proofs.Unique as packet
 use Rattle.framer.proofs.Unique as framing
@@ -26,10 +29,10 @@ use Rattle.reader.proofs.Unique as reading
 use Rattle.reader.specs.declared.Reader.{Reader}
 use Rattle.reader.specs.declared.Taken.{Taken as Commanded}
 use Rattle.reader.specs.declared.Started.{Started}
-use Rattle.reader.specs.declared.Loaded.{Loaded}
+use Rattle.reader.specs.Promises.{left_of}
 use Rattle.motikhund.specs.Lent.{Need, at_least, Lacking, here, there, Enough, none, more, Asks, IfNamed, KeptUnless, Kept, Made}
 use Rattle.motikhund.specs.Control.{flag_byte, reader_in, permanent_changed}
-use Rattle.motikhund.specs.Numbers.{checked_number, checked_values, heard_number, found_number, found_values, built_number, hub_number, hub_values, block_values, outcome_number, outcome_value, start_values, is_refused, waits_number, reader_number, reader_values, written_number, written_size, verdict_number, is_unread}
+use Rattle.motikhund.specs.Numbers.{result_number, is_err, checked_values, heard_number, found_number, found_values, hub_number, hub_values, block_values, outcome_number, outcome_value, start_values, is_refused, waits_number, reader_number, reader_values}
 use Rattle.motikhund.specs.Tables.{SetsTable, DefaultsTable, PowersUpTable, TakesOut, PutsBack}
 use Rattle.motikhund.specs.declared.tables.MkTable.{MkTable}
 use Rattle.motikhund.specs.Promises.{PacketChecks, PacketBuilds, PacketAnswers, FramerIdle, FramerHears, went_on, FrontAfter, GoesOn, HubOn, HubHears, HubHearsBlock, SenderIdle, Brings, Begins, SenderStarts, SenderHears, SenderWaits, SenderHeeds, FreshReader, ReaderOn, ReaderPowersUp, ReaderStarts, ReaderTimesOut, ReaderHears, ReaderValue, ReaderLocked, ReaderSaves, ReaderLoads, ReaderSwitches}
@@ -130,13 +133,13 @@ reader_power_up_unique p q = made_unique (λ v v' a b. reading.power_up_unique a
 pub check_unique : {s head₁ head₂ : List ℕ} {r r' : ℕ} → PacketChecks s r head₁ → PacketChecks s r' head₂ → (r ≡ r') × (head₁ ≡ head₂)
 check_unique p q =
     let u = packet.check_unique p.checks q.checks in
-    (numbered checked_number u p.told q.told, numbered checked_values u p.values q.values)
+    (numbered (λ (x : Result Head Refusal). result_number x 100) u p.told q.told, numbered checked_values u p.values q.values)
 
 pub build_unique : {room carried room₁ room₂ : List ℕ} {opcode source status r r' size₁ size₂ : ℕ} → PacketBuilds room opcode source status carried r room₁ size₁ →
     PacketBuilds room opcode source status carried r' room₂ size₂ → (r ≡ r') × (room₁ ≡ room₂) × (size₁ ≡ size₂)
 build_unique p q =
     let u = packet.build_unique p.builds q.builds in
-    (numbered built_number u.0 p.told q.told, u.1, numbered size_of u.0 p.value q.value)
+    (numbered (λ (x : Result ℕ Refusal). result_number x 101) u.0 p.told q.told, u.1, numbered size_of u.0 p.value q.value)
 
 pub answer_unique : {room room₁ room₂ : List ℕ} {source reply r r' size₁ size₂ : ℕ} → PacketAnswers room source reply r room₁ size₁ →
     PacketAnswers room source reply r' room₂ size₂ → (r ≡ r') × (room₁ ≡ room₂) × (size₁ ≡ size₂)
@@ -146,7 +149,7 @@ answer_unique p q =
     named_unique n m (λ a b. stays_3 a b)
     (λ a b.
     let u = packet.answer_unique a.answers b.answers in
-    (numbered built_number u.0 a.told b.told, u.1, numbered size_of u.0 a.value b.value)))
+    (numbered (λ (x : Result ℕ Refusal). result_number x 101) u.0 a.told b.told, u.1, numbered size_of u.0 a.value b.value)))
 
 -- ---- the framer
 
@@ -323,16 +326,16 @@ reader_save_unique p q =
     (λ a b. (same a.0 b.0, same a.1 b.1, same a.2 b.2))
     (λ a b.
     let u = saved.save_unique a.saves b.saves in
-    (numbered written_number u.0 a.told b.told, u.1, numbered written_size u.0 a.value b.value))
+    (numbered (λ (x : Result ℕ Refusal). result_number x 101) u.0 a.told b.told, u.1, numbered size_of u.0 a.value b.value))
 
 pub reader_load_unique : {control form control₁ control₂ : List ℕ} {r r' : ℕ} → ReaderLoads control form r control₁ → ReaderLoads control form r' control₂ → (r ≡ r') × (control₁ ≡ control₂)
-reader_load_unique p q =
+reader_load_unique {control} p q =
     asks_unique p.asks q.asks
     (λ a b. (same a.0 b.0, same a.1 b.1))
     (λ a b.
     let u = reading.load_unique a.loads b.loads in (
-      numbered (λ (x : Loaded). verdict_number x.verdict 0) u a.told b.told,
-      same_start (λ (x : Loaded). is_unread x.verdict) (λ (x : Loaded). x.reader) u a.kept b.kept,
+      numbered (λ (x : Result Reader Refusal). result_number x 0) u a.told b.told,
+      same_start (is_err {A = Reader}) (left_of (reader_in control)) u a.kept b.kept,
     ))
 
 -- ---- a table that is kept as a struct

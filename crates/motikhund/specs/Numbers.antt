@@ -1,14 +1,10 @@
 -- Events and answers as numbers, for callers in other languages. What is told is a number: 0 for nothing, a refusal's own number, or
 -- one from 100 on. What is told with it are values, 0 where a case has none.
-use Rattle.std.specs.Prelude.{ℕ, Bool, true, false, List, [], ◌∷◌, ◌++◌, ◌≡◌, eqb, leb, ltb}
+use Rattle.std.specs.Prelude.{ℕ, Bool, true, false, List, [], ◌∷◌, ◌++◌, ◌≡◌, Option, Some, None, Result, Ok, Err, eqb, leb, ltb}
 use Rattle.words.specs.Lists.{pick}
 use Rattle.packet.specs.Refusals.{number_of}
 use Rattle.packet.specs.declared.Refusal.{Refusal}
 use Rattle.packet.specs.declared.Head.{Head}
-use Rattle.packet.specs.declared.Checked.{Checked}
-use Rattle.packet.specs.declared.Checked.TheVariants as checked
-use Rattle.packet.specs.declared.Built.{Built}
-use Rattle.packet.specs.declared.Built.TheVariants as built
 use Rattle.packet.specs.declared.Reply.{Reply}
 use Rattle.packet.specs.declared.Reply.TheVariants as reply
 use Rattle.framer.specs.declared.Event.{Event}
@@ -18,14 +14,9 @@ use Rattle.framer.specs.declared.Found.TheVariants as found
 use Rattle.hub.specs.declared.Told.{Told}
 use Rattle.hub.specs.declared.Told.TheVariants as told
 use Rattle.commands.specs.declared.Beep.{Beep}
-use Rattle.commands.specs.declared.Beep.TheVariants as beep
 use Rattle.reader.specs.declared.Told.{Told as Commanded}
 use Rattle.reader.specs.declared.Told.TheVariants as commanded
 use Rattle.table.specs.Table.{Outcome as Settled, done, refused}
-use Rattle.table.specs.declared.Verdict.{Verdict}
-use Rattle.table.specs.declared.Verdict.TheVariants as verdict
-use Rattle.table.specs.declared.Written.{Written}
-use Rattle.table.specs.declared.Written.TheVariants as written
 use Rattle.sender.specs.declared.Heard.{Heard}
 use Rattle.sender.specs.declared.Heard.TheVariants as heard
 use Rattle.sender.specs.declared.Outcome.{Outcome}
@@ -67,13 +58,19 @@ head_values h = h.length ∷ h.opcode ∷ h.source ∷ h.status ∷ []
 abbrev pub no_head : List ℕ
 no_head = 0 ∷ 0 ∷ 0 ∷ 0 ∷ []
 
-abbrev pub checked_number : Checked → ℕ
-checked_number (checked.Packet head) = 100
-checked_number (checked.Refused r) = number_of r
+-- A call that may be refused: what it told where it was not, or the refusal's number.
+abbrev pub result_number : {A : Type 0} → Result A Refusal → ℕ → ℕ
+result_number (Ok x) n = n
+result_number (Err r) n = number_of r
 
-abbrev pub checked_values : Checked → List ℕ
-checked_values (checked.Packet head) = head_values head
-checked_values (checked.Refused r) = no_head
+-- Whether it is a refusal.
+abbrev pub is_err : {A : Type 0} → Result A Refusal → Bool
+is_err (Ok x) = false
+is_err (Err r) = true
+
+abbrev pub checked_values : Result Head Refusal → List ℕ
+checked_values (Ok head) = head_values head
+checked_values (Err r) = no_head
 
 abbrev pub found_number : Found → ℕ
 found_number found.Nothing = 0
@@ -84,10 +81,6 @@ abbrev pub found_values : Found → List ℕ
 found_values found.Nothing = no_head
 found_values (found.Packet head) = head_values head
 found_values (found.Refused r) = no_head
-
-abbrev pub built_number : Built → ℕ
-built_number (built.Written size) = 101
-built_number (built.Refused r) = number_of r
 
 -- The hub: how many bytes stand in the answer room; of a message also its code type and how many bytes stand in the message room.
 abbrev pub hub_number : Told → ℕ
@@ -157,9 +150,9 @@ reader_number (commanded.Refused r) sent = number_of r
 reader_number (commanded.Acted beep) sent = 130
 reader_number commanded.Repeated sent = 111
 
-abbrev pub row_of : Beep → List ℕ
-row_of beep.Silent = 0 ∷ 0 ∷ 0 ∷ []
-row_of (beep.Row duration pitch count) = duration ∷ pitch ∷ count ∷ []
+abbrev pub row_of : Option Beep → List ℕ
+row_of None = 0 ∷ 0 ∷ 0 ∷ []
+row_of (Some beep) = beep.duration ∷ beep.pitch ∷ beep.count ∷ []
 
 abbrev pub reader_row : Commanded → List ℕ
 reader_row commanded.Nothing = 0 ∷ 0 ∷ 0 ∷ []
@@ -170,26 +163,10 @@ reader_row commanded.Repeated = 0 ∷ 0 ∷ 0 ∷ []
 unfoldable pub reader_values : Commanded → ℕ → Outcome → Bool → List ℕ
 reader_values told answer sent changed = answer ∷ (reader_row told ++ (outcome_value sent ∷ flag_byte changed ∷ []))
 
--- A saved set that was written: how many bytes it has. One that was read, or not: what is told where it was taken, or its refusal.
-abbrev pub written_number : Written → ℕ
-written_number (written.Bytes size) = 101
-written_number (written.Refused r) = number_of r
-
-abbrev pub written_size : Written → ℕ
-written_size (written.Bytes size) = size
-written_size (written.Refused r) = 0
-
-abbrev pub verdict_number : Verdict → ℕ → ℕ
-verdict_number verdict.Done taken = taken
-verdict_number (verdict.Refused r) taken = number_of r
-
+-- A saved set that was read, or not: what is told where it was taken, or its refusal.
 abbrev pub settled_number : Settled → ℕ → ℕ
 settled_number (done v) taken = taken
 settled_number (refused r) taken = number_of r
-
-abbrev pub is_unread : Verdict → Bool
-is_unread verdict.Done = false
-is_unread (verdict.Refused r) = true
 
 -- ---- promises
 
@@ -211,10 +188,10 @@ pub record RefusalNumber (why : Refusal) (r : ℕ) : Type 0 where
 pub record HeadValues (h : Head) (values : List ℕ) : Type 0 where
   pub is : values ≡ head_values h
 
-pub record CheckedNumber (c : Checked) (r : ℕ) : Type 0 where
-  pub is : r ≡ checked_number c
+pub record ResultNumber {A : Type 0} (made : Result A Refusal) (n r : ℕ) : Type 0 where
+  pub is : r ≡ result_number made n
 
-pub record CheckedValues (c : Checked) (values : List ℕ) : Type 0 where
+pub record CheckedValues (c : Result Head Refusal) (values : List ℕ) : Type 0 where
   pub is : values ≡ checked_values c
 
 pub record FoundNumber (f : Found) (r : ℕ) : Type 0 where
@@ -222,9 +199,6 @@ pub record FoundNumber (f : Found) (r : ℕ) : Type 0 where
 
 pub record FoundValues (f : Found) (values : List ℕ) : Type 0 where
   pub is : values ≡ found_values f
-
-pub record BuiltNumber (b : Built) (r : ℕ) : Type 0 where
-  pub is : r ≡ built_number b
 
 pub record HubNumber (t : Told) (r : ℕ) : Type 0 where
   pub is : r ≡ hub_number t
@@ -253,23 +227,8 @@ pub record WaitsNumber (out : Bool) (r : ℕ) : Type 0 where
 pub record ReaderNumber (t : Commanded) (sent : Outcome) (r : ℕ) : Type 0 where
   pub is : r ≡ reader_number t sent
 
-pub record RowOf (b : Beep) (row : List ℕ) : Type 0 where
-  pub is : row ≡ row_of b
-
 pub record ReaderRow (t : Commanded) (row : List ℕ) : Type 0 where
   pub is : row ≡ reader_row t
 
 pub record ReaderValues (t : Commanded) (answer : ℕ) (o : Outcome) (changed : Bool) (values : List ℕ) : Type 0 where
   pub is : values ≡ reader_values t answer o changed
-
-pub record WrittenNumber (w : Written) (r : ℕ) : Type 0 where
-  pub is : r ≡ written_number w
-
-pub record WrittenSize (w : Written) (r : ℕ) : Type 0 where
-  pub is : r ≡ written_size w
-
-pub record VerdictNumber (v : Verdict) (taken r : ℕ) : Type 0 where
-  pub is : r ≡ verdict_number v taken
-
-pub record Unread (v : Verdict) (r : Bool) : Type 0 where
-  pub is : r ≡ is_unread v

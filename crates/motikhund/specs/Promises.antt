@@ -2,13 +2,13 @@
 -- nothing changed; then a number that names no event or reply does nothing. Else it is the library's call on what the bytes read as, with
 -- that call's own promise; what it told stands in numbers, and the control bytes afterwards are those of the control value that it left, or
 -- as they were where a start or a saved set was refused, or no byte of a block was taken. Only the short way writes less of them.
-use Rattle.std.specs.Prelude.{ℕ, Bool, true, false, List, [], ◌∷◌, ◌≡◌, eqb}
+use Rattle.std.specs.Prelude.{ℕ, Bool, true, false, List, [], ◌∷◌, ◌≡◌, Result, eqb}
 use Rattle.packet.specs.Opcodes.{host}
 use Rattle.packet.specs.Packet.{size_of}
 use Rattle.packet.specs.Promises as packet
 use Rattle.packet.specs.Sizes.{packet_size, answer_size, message_size}
-use Rattle.packet.specs.declared.Checked.{Checked}
-use Rattle.packet.specs.declared.Built.{Built}
+use Rattle.packet.specs.declared.Head.{Head}
+use Rattle.packet.specs.declared.Refusal.{Refusal}
 use Rattle.framer.specs.Framer.{hearing}
 use Rattle.framer.specs.Promises as framing
 use Rattle.framer.specs.Halves as halves
@@ -24,7 +24,6 @@ use Rattle.sender.specs.declared.Sending.{Sending}
 use Rattle.sender.specs.declared.Outcome.{Outcome}
 use Rattle.table.specs.Promises as settings
 use Rattle.table.specs.declared.Table.{Table}
-use Rattle.table.specs.declared.Written.{Written}
 use Rattle.saved.specs.Saved.{edition1, read_form}
 use Rattle.saved.specs.Promises as saved
 use Rattle.reader.specs.Reader.{reader_answer_size}
@@ -32,29 +31,28 @@ use Rattle.reader.specs.Promises as reading
 use Rattle.reader.specs.declared.Reader.{Reader}
 use Rattle.reader.specs.declared.Taken.{Taken as Commanded}
 use Rattle.reader.specs.declared.Started.{Started}
-use Rattle.reader.specs.declared.Loaded.{Loaded}
 use Rattle.motikhund.specs.Lent.{at_least, Asks, IfNamed, KeptUnless, Kept, Made}
 use Rattle.motikhund.specs.Control.{framer_control_size, hub_control_size, sender_control_size, reader_control_size, number_in, number_bytes, flag_in, flag_byte, framer_in, framer_bytes, hub_in, hub_bytes, sender_in, sender_bytes, reader_in, reader_bytes, switch_values, permanent_changed}
-use Rattle.motikhund.specs.Numbers.{is_event, event_of, heard_of, heard_number, is_reply, reply_of, no_head, checked_number, checked_values, found_number, found_values, built_number, hub_number, hub_values, block_values, outcome_number, outcome_value, start_values, is_refused, waits_number, reader_number, reader_values, written_number, written_size, verdict_number, settled_number, is_unread}
+use Rattle.motikhund.specs.Numbers.{is_event, event_of, heard_of, heard_number, is_reply, reply_of, no_head, result_number, is_err, checked_values, found_number, found_values, hub_number, hub_values, block_values, outcome_number, outcome_value, start_values, is_refused, waits_number, reader_number, reader_values, settled_number}
 
 -- ---- the packet: each call asks for its own room
 
 pub record PacketChecks (s : List ℕ) (r : ℕ) (head : List ℕ) : Type 0 where
-  pub found : Checked
+  pub found : Result Head Refusal
   pub checks : packet.Check s found
-  pub told : r ≡ checked_number found
+  pub told : r ≡ result_number found 100
   pub values : head ≡ checked_values found
 
 pub record PacketBuilds (room : List ℕ) (opcode source status : ℕ) (carried : List ℕ) (r : ℕ) (room' : List ℕ) (size : ℕ) : Type 0 where
-  pub made : Built
+  pub made : Result ℕ Refusal
   pub builds : packet.Build room opcode source status carried made room'
-  pub told : r ≡ built_number made
+  pub told : r ≡ result_number made 101
   pub value : size ≡ size_of made
 
 pub record PacketReplies (room : List ℕ) (source reply r : ℕ) (room' : List ℕ) (size : ℕ) : Type 0 where
-  pub made : Built
+  pub made : Result ℕ Refusal
   pub answers : packet.Answer room source (reply_of reply) made room'
-  pub told : r ≡ built_number made
+  pub told : r ≡ result_number made 101
   pub value : size ≡ size_of made
 
 -- Nothing is written, and this number told.
@@ -270,20 +268,20 @@ pub record ReaderLocked (control : List ℕ) (number r value : ℕ) : Type 0 whe
 
 -- The saved set, written to a room.
 pub record ReaderWrites (control room : List ℕ) (r : ℕ) (room' : List ℕ) (size : ℕ) : Type 0 where
-  pub made : Written
+  pub made : Result ℕ Refusal
   pub saves : saved.Saves (reader_in control).device.table room made room'
-  pub told : r ≡ written_number made
-  pub value : size ≡ written_size made
+  pub told : r ≡ result_number made 101
+  pub value : size ≡ size_of made
 
 pub record ReaderSaves (control room : List ℕ) (r : ℕ) (room' : List ℕ) (size : ℕ) : Type 0 where
   pub asks : Asks (at_least reader_control_size control ∷ []) (Unwritten 13 room r room' size) (ReaderWrites control room r room' size)
 
 -- A saved set, read into the reader. 12 comes before 13: a form that is none is told as that, also where the control value is too small.
 pub record ReaderReads (control form : List ℕ) (r : ℕ) (control' : List ℕ) : Type 0 where
-  pub loaded : Loaded
+  pub loaded : Result Reader Refusal
   pub loads : reading.Loads (reader_in control) form loaded
-  pub told : r ≡ verdict_number loaded.verdict 0
-  pub kept : KeptUnless (is_unread loaded.verdict) reader_in reader_bytes loaded.reader control control'
+  pub told : r ≡ result_number loaded 0
+  pub kept : KeptUnless (is_err loaded) reader_in reader_bytes (reading.left_of (reader_in control) loaded) control control'
 
 pub record ReaderLoads (control form : List ℕ) (r : ℕ) (control' : List ℕ) : Type 0 where
   pub asks : Asks (at_least reader_control_size control ∷ []) ((r ≡ settled_number (read_form edition1 form) 13) × (control' ≡ control)) (ReaderReads control form r control')

@@ -7,9 +7,8 @@ ghost use Rattle.motikhund.specs.Control.{hub_control_size};
 ghost use Rattle.hub.specs.Block.{block_size};
 ghost use Rattle.motikhund.specs.Blocks.{ReadsBytes, CarriesBytes, NamesNumber, LeavesNumber};
 
+use crate::numbers::MESSAGE;
 use hub::HUB_ANSWER_SIZE;
-
-const MESSAGE: u32 = 112;
 
 // What a block brought, as `mk_hub_hear_block` tells it.
 #[derive(Clone, Copy)]
@@ -46,7 +45,7 @@ pub(crate) fn read(
             if at == bytes.len() {
                 break 'packets;
             }
-            let event = bytes[at] as u32;
+            let event = u32::from(bytes[at]);
             let number = crate::mk_hub_hear(
                 control,
                 line,
@@ -84,17 +83,12 @@ fn carry(control: &mut [u8], line: &mut [u8; framer::LINE_SIZE], bytes: &[u8]) -
     ensures { CarriesBytes control.old line.old bytes.now result control.new line.new }
 {
     let before = crate::control::hub(control);
-    let halves = before.line;
-    let gathering = before.gathering;
-    let taken = framer::take_in(halves, line, bytes);
-    let moved = taken.halves;
-    crate::control::put_hub(
-        hub::Hub {
-            line: moved,
-            gathering,
-        },
-        control,
-    );
+    let taken = framer::take_in(before.line, line, bytes);
+    let after = hub::Hub {
+        line: taken.halves,
+        ..before
+    };
+    crate::control::put_hub(after, control);
     taken.count
 }
 
@@ -102,24 +96,15 @@ fn carry(control: &mut [u8], line: &mut [u8; framer::LINE_SIZE], bytes: &[u8]) -
 fn named(before: u32, number: u32) -> u32
     ensures { NamesNumber before number result }
 {
-    if number == MESSAGE {
-        return number;
+    match number {
+        1 | 2 | MESSAGE => number,
+        _ => before,
     }
-    if number == 0 {
-        return before;
-    }
-    if number < 3 {
-        return number;
-    }
-    before
 }
 
 // Whether a block is left behind what a byte brought, with so much of the answer room left.
 fn leaving(number: u32, room: usize) -> bool
     ensures { LeavesNumber number room result }
 {
-    if number == MESSAGE {
-        return true;
-    }
-    room < HUB_ANSWER_SIZE
+    number == MESSAGE || room < HUB_ANSWER_SIZE
 }

@@ -14,12 +14,14 @@ ghost use Rattle.motikhund.specs.Tables.{SetsTable, DefaultsTable, PowersUpTable
 use control::{
     FRAMER_CONTROL_SIZE, GOING_SIZE, HUB_CONTROL_SIZE, READER_CONTROL_SIZE, SENDER_CONTROL_SIZE,
 };
+use numbers::{PACKET, WRITTEN};
+use packet::Refusal;
 use tables::MkTable;
 
 // Lent room too small.
-pub(crate) const ROOM: u32 = 13;
+const ROOM: u32 = Refusal::Room as u32;
 // More bytes than a call takes.
-const LONG: u32 = 15;
+const LONG: u32 = Refusal::Long as u32;
 // The largest numbers that name an event and a reply.
 const LAST_EVENT: u32 = 257;
 
@@ -34,7 +36,7 @@ pub extern "C" fn mk_check(bytes: &[u8], head: &mut [usize; 4]) -> u32
 {
     let checked = packet::check(bytes);
     numbers::checked_values(checked, head);
-    numbers::checked(checked)
+    numbers::told(checked, PACKET)
 }
 
 // A packet at the front of the room: 101 and its size, or a refusal.
@@ -51,7 +53,7 @@ pub extern "C" fn mk_build(
 {
     let built = packet::build(room, opcode, source, status, data);
     *size = packet::size_of(built);
-    numbers::built(built)
+    numbers::told(built, WRITTEN)
 }
 
 // An ACK or a NAK at the front of the room: 101 and its size, or a refusal.
@@ -69,7 +71,7 @@ pub extern "C" fn mk_answer(room: &mut [u8], source: u8, reply: u32, size: &mut 
     }
     let built = packet::answer(room, source, numbers::reply(reply));
     *size = packet::size_of(built);
-    numbers::built(built)
+    numbers::told(built, WRITTEN)
 }
 
 // ---- the framer
@@ -96,11 +98,7 @@ pub extern "C" fn mk_framer_hear(
 ) -> u32
     ensures { FramerHears control.old line.old event result control.new line.new head.new }
 {
-    if control.len() < FRAMER_CONTROL_SIZE {
-        *head = [0; 4];
-        return ROOM;
-    }
-    if line.len() < packet::PACKET_SIZE {
+    if control.len() < FRAMER_CONTROL_SIZE || line.len() < packet::PACKET_SIZE {
         *head = [0; 4];
         return ROOM;
     }
@@ -109,11 +107,9 @@ pub extern "C" fn mk_framer_hear(
         return 0;
     }
     let framed = framer::hear(control::framer(control), line, numbers::event(event));
-    let next = framed.framer;
-    let found = framed.found;
-    control::put_framer(next, control);
-    numbers::found_values(found, head);
-    numbers::found(found)
+    control::put_framer(framed.framer, control);
+    numbers::found_values(framed.found, head);
+    numbers::found(framed.found)
 }
 
 // ---- the short way of hub and reader
@@ -172,15 +168,10 @@ pub extern "C" fn mk_hub_hear(
 ) -> u32
     ensures { HubHears control.old line.old gather.old answer.old message.old event result control.new line.new gather.new answer.new message.new values.new }
 {
-    if control.len() < HUB_CONTROL_SIZE {
-        *values = [0; 3];
-        return ROOM;
-    }
-    if answer.len() < hub::HUB_ANSWER_SIZE {
-        *values = [0; 3];
-        return ROOM;
-    }
-    if message.len() < packet::MESSAGE_SIZE {
+    if control.len() < HUB_CONTROL_SIZE
+        || answer.len() < hub::HUB_ANSWER_SIZE
+        || message.len() < packet::MESSAGE_SIZE
+    {
         *values = [0; 3];
         return ROOM;
     }
@@ -196,11 +187,9 @@ pub extern "C" fn mk_hub_hear(
         message,
         numbers::event(event),
     );
-    let next = taken.hub;
-    let told = taken.told;
-    control::put_hub(next, control);
-    numbers::hub_values(told, taken.answer, values);
-    numbers::hub(told)
+    control::put_hub(taken.hub, control);
+    numbers::hub_values(taken.told, taken.answer, values);
+    numbers::hub(taken.told)
 }
 
 // Many bytes with no gap among them, in one call: 112 a message stands in the message room, refusal 1 or 2 where one fell, 13, 15, or 0.
@@ -218,15 +207,10 @@ pub extern "C" fn mk_hub_hear_block(
 ) -> u32
     ensures { HubHearsBlock control.old line.old gather.old answer.old message.old bytes.now result control.new line.new gather.new answer.new message.new values.new }
 {
-    if control.len() < HUB_CONTROL_SIZE {
-        *values = [0; 4];
-        return ROOM;
-    }
-    if answer.len() < hub::HUB_ANSWER_SIZE {
-        *values = [0; 4];
-        return ROOM;
-    }
-    if message.len() < packet::MESSAGE_SIZE {
+    if control.len() < HUB_CONTROL_SIZE
+        || answer.len() < hub::HUB_ANSWER_SIZE
+        || message.len() < packet::MESSAGE_SIZE
+    {
         *values = [0; 4];
         return ROOM;
     }
@@ -266,22 +250,17 @@ pub extern "C" fn mk_sender_start(
 ) -> u32
     ensures { SenderStarts control.old buffer.old room.old code message.now result control.new buffer.new room.new values.new }
 {
-    if control.len() < SENDER_CONTROL_SIZE {
-        *values = [0; 2];
-        return ROOM;
-    }
-    if room.len() < packet::PACKET_SIZE {
+    if control.len() < SENDER_CONTROL_SIZE || room.len() < packet::PACKET_SIZE {
         *values = [0; 2];
         return ROOM;
     }
     let sending = sender::start(control::sender(control), buffer, room, code, message);
-    let next = sending.sender;
     let outcome = sending.outcome;
     numbers::start_values(outcome, values);
     if numbers::refused(outcome) {
         return numbers::outcome(outcome);
     }
-    control::put_sender(next, control);
+    control::put_sender(sending.sender, control);
     numbers::outcome(outcome)
 }
 
@@ -296,11 +275,7 @@ pub extern "C" fn mk_sender_hear(
 ) -> u32
     ensures { SenderHears control.old buffer.now room.old heard result control.new room.new value.new }
 {
-    if control.len() < SENDER_CONTROL_SIZE {
-        *value = 0;
-        return ROOM;
-    }
-    if room.len() < packet::PACKET_SIZE {
+    if control.len() < SENDER_CONTROL_SIZE || room.len() < packet::PACKET_SIZE {
         *value = 0;
         return ROOM;
     }
@@ -310,11 +285,9 @@ pub extern "C" fn mk_sender_hear(
         room,
         numbers::heard(heard),
     );
-    let next = sending.sender;
-    let outcome = sending.outcome;
-    control::put_sender(next, control);
-    *value = numbers::outcome_value(outcome);
-    numbers::outcome(outcome)
+    control::put_sender(sending.sender, control);
+    *value = numbers::outcome_value(sending.outcome);
+    numbers::outcome(sending.outcome)
 }
 
 // 123 where a message is out, else 0.
@@ -380,22 +353,17 @@ pub extern "C" fn mk_reader_start(
 ) -> u32
     ensures { ReaderStarts control.old message.old copy.old code bytes.now result control.new message.new copy.new values.new }
 {
-    if control.len() < READER_CONTROL_SIZE {
-        *values = [0; 2];
-        return ROOM;
-    }
-    if copy.len() < packet::PACKET_SIZE {
+    if control.len() < READER_CONTROL_SIZE || copy.len() < packet::PACKET_SIZE {
         *values = [0; 2];
         return ROOM;
     }
     let started = reader::start(control::reader(control), message, copy, code, bytes);
-    let next = started.reader;
     let outcome = started.outcome;
     numbers::start_values(outcome, values);
     if numbers::refused(outcome) {
         return numbers::outcome(outcome);
     }
-    control::put_reader(next, control);
+    control::put_reader(started.reader, control);
     numbers::outcome(outcome)
 }
 
@@ -409,20 +377,14 @@ pub extern "C" fn mk_reader_time_out(
 ) -> u32
     ensures { ReaderTimesOut control.old message.now copy.old result control.new copy.new value.new }
 {
-    if control.len() < READER_CONTROL_SIZE {
-        *value = 0;
-        return ROOM;
-    }
-    if copy.len() < packet::PACKET_SIZE {
+    if control.len() < READER_CONTROL_SIZE || copy.len() < packet::PACKET_SIZE {
         *value = 0;
         return ROOM;
     }
     let started = reader::time_out(control::reader(control), message, copy);
-    let next = started.reader;
-    let outcome = started.outcome;
-    control::put_reader(next, control);
-    *value = numbers::outcome_value(outcome);
-    numbers::outcome(outcome)
+    control::put_reader(started.reader, control);
+    *value = numbers::outcome_value(started.outcome);
+    numbers::outcome(started.outcome)
 }
 
 // One event: 130 a command was acted on, 111 a repeat, what the sender brought (120, 121, 122), a refusal, or 0. The values are the
@@ -440,15 +402,10 @@ pub extern "C" fn mk_reader_hear(
 ) -> u32
     ensures { ReaderHears control.old line.old answers.old message.now answer.old copy.old event result control.new line.new answers.new answer.new copy.new values.new }
 {
-    if control.len() < READER_CONTROL_SIZE {
-        *values = [0; 6];
-        return ROOM;
-    }
-    if answer.len() < reader::READER_ANSWER_SIZE {
-        *values = [0; 6];
-        return ROOM;
-    }
-    if copy.len() < packet::PACKET_SIZE {
+    if control.len() < READER_CONTROL_SIZE
+        || answer.len() < reader::READER_ANSWER_SIZE
+        || copy.len() < packet::PACKET_SIZE
+    {
         *values = [0; 6];
         return ROOM;
     }
@@ -456,9 +413,8 @@ pub extern "C" fn mk_reader_hear(
         *values = [0; 6];
         return 0;
     }
-    let before = control::reader(control);
     let taken = reader::hear(
-        before,
+        control::reader(control),
         line,
         answers,
         message,
@@ -466,13 +422,10 @@ pub extern "C" fn mk_reader_hear(
         copy,
         numbers::event(event),
     );
-    let next = taken.reader;
-    let told = taken.told;
-    let outcome = taken.outcome;
-    let changed = control::permanent_changed(control, next);
-    control::put_reader(next, control);
-    numbers::reader_values(told, taken.answer, outcome, changed, values);
-    numbers::reader(told, outcome)
+    let changed = control::permanent_changed(control, taken.reader);
+    control::put_reader(taken.reader, control);
+    numbers::reader_values(taken.told, taken.answer, taken.outcome, changed, values);
+    numbers::reader(taken.told, taken.outcome)
 }
 
 // The present value of a parameter; 0 where it is not supported.
@@ -485,9 +438,7 @@ pub extern "C" fn mk_reader_value(control: &[u8], number: u8, value: &mut usize)
         return ROOM;
     }
     let before = control::reader(control);
-    let device = before.device;
-    let table = device.table;
-    *value = words::wide(table::value(table, number));
+    *value = usize::from(table::value(before.device.table, number));
     0
 }
 
@@ -501,9 +452,7 @@ pub extern "C" fn mk_reader_locked(control: &[u8], number: u8, value: &mut usize
         return ROOM;
     }
     let before = control::reader(control);
-    let device = before.device;
-    let table = device.table;
-    *value = usize::from(table::locked(table, number));
+    *value = usize::from(table::locked(before.device.table, number));
     0
 }
 
@@ -517,10 +466,9 @@ pub extern "C" fn mk_reader_save(control: &[u8], room: &mut [u8], size: &mut usi
         return ROOM;
     }
     let before = control::reader(control);
-    let device = before.device;
-    let written = saved::save(device.table, room);
-    *size = numbers::written_size(written);
-    numbers::written(written)
+    let written = saved::save(before.device.table, room);
+    *size = packet::size_of(written);
+    numbers::told(written, WRITTEN)
 }
 
 // Reads a saved set: 0 where it was taken. 12 for any bytes that are no form, then 13, and every control byte stays.
@@ -529,18 +477,15 @@ pub extern "C" fn mk_reader_load(control: &mut [u8], form: &[u8]) -> u32
     ensures { ReaderLoads control.old form.now result control.new }
 {
     if control.len() < READER_CONTROL_SIZE {
-        let unread = saved::load(table::defaults(), form);
-        let verdict = unread.verdict;
-        return numbers::verdict(verdict, ROOM);
+        return numbers::told(saved::load(form), ROOM);
     }
-    let loaded = reader::load(control::reader(control), form);
-    let next = loaded.reader;
-    let verdict = loaded.verdict;
-    if numbers::unread(verdict) {
-        return numbers::verdict(verdict, 0);
+    match reader::load(control::reader(control), form) {
+        Ok(next) => {
+            control::put_reader(next, control);
+            0
+        }
+        Err(why) => numbers::refusal(why),
     }
-    control::put_reader(next, control);
-    0
 }
 
 // What is switched on: scanning, session, aim, LED, each 1 or 0.
@@ -553,8 +498,7 @@ pub extern "C" fn mk_reader_switches(control: &[u8], values: &mut [usize; 4]) ->
         return ROOM;
     }
     let before = control::reader(control);
-    let device = before.device;
-    control::switches(device, values);
+    control::switches(before.device, values);
     0
 }
 
@@ -563,9 +507,12 @@ pub extern "C" fn mk_reader_switches(control: &[u8], values: &mut [usize; 4]) ->
 pub extern "C" fn mk_reader_table(control: &[u8], table: &mut MkTable) -> u32
     ensures { TakesOut control.now table.old result table.new }
 {
-    let altered = tables::taken_out(control, *table);
-    *table = altered.table;
-    altered.told
+    if control.len() < READER_CONTROL_SIZE {
+        return ROOM;
+    }
+    let before = control::reader(control);
+    *table = tables::struct_of(before.device.table);
+    0
 }
 
 // A table put into a reader: 0. 13, then 9 for a value that its parameter does not take, and every control byte stays. The last accepted
@@ -574,7 +521,15 @@ pub extern "C" fn mk_reader_table(control: &[u8], table: &mut MkTable) -> u32
 pub extern "C" fn mk_reader_put_table(control: &mut [u8], table: &MkTable) -> u32
     ensures { PutsBack control.old table.now result control.new }
 {
-    tables::put_back(control, *table)
+    if control.len() < READER_CONTROL_SIZE {
+        return ROOM;
+    }
+    if !tables::all_allowed(*table) {
+        return numbers::refusal(Refusal::Setting);
+    }
+    let next = reader::with_table(control::reader(control), tables::table_of(*table));
+    control::put_reader(next, control);
+    0
 }
 
 // ---- a parameter table that a board keeps
@@ -584,9 +539,13 @@ pub extern "C" fn mk_reader_put_table(control: &mut [u8], table: &MkTable) -> u3
 pub extern "C" fn mk_table_set(table: &mut MkTable, pairs: &[u8], permanent: bool) -> u32
     ensures { SetsTable table.old pairs.now permanent result table.new }
 {
-    let altered = tables::set(*table, pairs, permanent);
-    *table = altered.table;
-    altered.told
+    match table::set(tables::table_of(*table), pairs, permanent) {
+        Ok(next) => {
+            *table = tables::with_values(*table, next);
+            0
+        }
+        Err(why) => numbers::refusal(why),
+    }
 }
 
 // Every parameter that is not locked to its house default, present and permanent.
@@ -594,7 +553,8 @@ pub extern "C" fn mk_table_set(table: &mut MkTable, pairs: &[u8], permanent: boo
 pub extern "C" fn mk_table_set_defaults(table: &mut MkTable)
     ensures { DefaultsTable table.old table.new }
 {
-    *table = tables::set_defaults(*table);
+    let next = table::set_defaults(tables::table_of(*table));
+    *table = tables::with_values(*table, next);
 }
 
 // Permanent values become present ones.
@@ -602,5 +562,6 @@ pub extern "C" fn mk_table_set_defaults(table: &mut MkTable)
 pub extern "C" fn mk_table_power_up(table: &mut MkTable)
     ensures { PowersUpTable table.old table.new }
 {
-    *table = tables::power_up(*table);
+    let next = table::power_up(tables::table_of(*table));
+    *table = tables::with_values(*table, next);
 }

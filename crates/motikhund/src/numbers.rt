@@ -1,48 +1,48 @@
 // Events and answers as numbers: specs/Numbers.antt has a line for each case of each enum.
-ghost use Rattle.motikhund.specs.Numbers.{EventOf, HeardOf, HeardNumber, ReplyOf, RefusalNumber, HeadValues, CheckedNumber, CheckedValues, FoundNumber, FoundValues, BuiltNumber, HubNumber, HubValues, OutcomeNumber, OutcomeValue, OutcomeGap, StartValues, OutcomeRefused, ReaderNumber, RowOf, ReaderRow, ReaderValues, WrittenNumber, WrittenSize, VerdictNumber, Unread};
+// stays numbers: they are the C interface's, and may not change.
+ghost use Rattle.motikhund.specs.Numbers.{EventOf, HeardOf, HeardNumber, ReplyOf, RefusalNumber, ResultNumber, HeadValues, CheckedValues, FoundNumber, FoundValues, HubNumber, HubValues, OutcomeNumber, OutcomeValue, OutcomeGap, StartValues, OutcomeRefused, ReaderNumber, ReaderRow, ReaderValues};
 
-use commands::Beep;
 use framer::{Event, Found};
-use packet::{Built, Checked, Head, Refusal, Reply};
+use packet::{Head, Refusal, Reply};
 use sender::{Heard, Outcome};
-use table::{Verdict, Written};
+
+// A packet stands there.
+pub(crate) const PACKET: u32 = 100;
+// Bytes were written.
+pub(crate) const WRITTEN: u32 = 101;
+// A message is complete.
+pub(crate) const MESSAGE: u32 = 112;
 
 // ---- what goes in
 
 pub(crate) fn event(n: u32) -> Event
     ensures { EventOf n result }
 {
-    if n < 256 {
-        return Event::Byte(n as u8);
+    match n {
+        0..=255 => Event::Byte(n as u8),
+        256 => Event::CharacterGap,
+        _ => Event::MessageGap,
     }
-    if n == 256 {
-        return Event::CharacterGap;
-    }
-    Event::MessageGap
 }
 
 pub(crate) fn heard(n: u32) -> Heard
     ensures { HeardOf n result }
 {
-    if n < 256 {
-        return Heard::Nak(n as u8);
+    match n {
+        0..=255 => Heard::Nak(n as u8),
+        256 => Heard::Ack,
+        257 => Heard::TimeOut,
+        _ => Heard::Nothing,
     }
-    if n == 256 {
-        return Heard::Ack;
-    }
-    if n == 257 {
-        return Heard::TimeOut;
-    }
-    Heard::Nothing
 }
 
 pub(crate) fn reply(n: u32) -> Reply
     ensures { ReplyOf n result }
 {
-    if n < 256 {
-        return Reply::Nak(n as u8);
+    match n {
+        0..=255 => Reply::Nak(n as u8),
+        _ => Reply::Ack,
     }
-    Reply::Ack
 }
 
 // ---- what comes out
@@ -50,34 +50,36 @@ pub(crate) fn reply(n: u32) -> Reply
 pub(crate) fn refusal(why: Refusal) -> u32
     ensures { RefusalNumber why result }
 {
-    packet::number(why) as u32
+    u32::from(packet::number(why))
+}
+
+// What a call told that may be refused: the number of what it did, or the refusal's.
+pub(crate) fn told<T: Copy>(made: Result<T, Refusal>, done: u32) -> u32
+    ensures { ResultNumber made done result }
+{
+    match made {
+        Ok(_) => done,
+        Err(why) => refusal(why),
+    }
 }
 
 fn head_values(head: Head, values: &mut [usize; 4])
     ensures { HeadValues head values.new }
 {
-    let length = head.length;
-    let opcode = words::wide(head.opcode);
-    let source = words::wide(head.source);
-    let status = words::wide(head.status);
-    *values = [length, opcode, source, status];
+    *values = [
+        head.length,
+        usize::from(head.opcode),
+        usize::from(head.source),
+        usize::from(head.status),
+    ];
 }
 
-pub(crate) fn checked(checked: Checked) -> u32
-    ensures { CheckedNumber checked result }
-{
-    match checked {
-        Checked::Packet(_) => 100,
-        Checked::Refused(why) => refusal(why),
-    }
-}
-
-pub(crate) fn checked_values(checked: Checked, values: &mut [usize; 4])
+pub(crate) fn checked_values(checked: Result<Head, Refusal>, values: &mut [usize; 4])
     ensures { CheckedValues checked values.new }
 {
     match checked {
-        Checked::Packet(head) => head_values(head, values),
-        Checked::Refused(_) => *values = [0; 4],
+        Ok(head) => head_values(head, values),
+        Err(_) => *values = [0; 4],
     }
 }
 
@@ -86,7 +88,7 @@ pub(crate) fn found(found: Found) -> u32
 {
     match found {
         Found::Nothing => 0,
-        Found::Packet(_) => 100,
+        Found::Packet(_) => PACKET,
         Found::Refused(why) => refusal(why),
     }
 }
@@ -95,18 +97,8 @@ pub(crate) fn found_values(found: Found, values: &mut [usize; 4])
     ensures { FoundValues found values.new }
 {
     match found {
-        Found::Nothing => *values = [0; 4],
         Found::Packet(head) => head_values(head, values),
-        Found::Refused(_) => *values = [0; 4],
-    }
-}
-
-pub(crate) fn built(built: Built) -> u32
-    ensures { BuiltNumber built result }
-{
-    match built {
-        Built::Written(_) => 101,
-        Built::Refused(why) => refusal(why),
+        Found::Nothing | Found::Refused(_) => *values = [0; 4],
     }
 }
 
@@ -117,7 +109,7 @@ pub(crate) fn hub(told: hub::Told) -> u32
         hub::Told::Nothing => 0,
         hub::Told::Added => 110,
         hub::Told::Repeated => 111,
-        hub::Told::Message { code: _, count: _ } => 112,
+        hub::Told::Message { .. } => MESSAGE,
         hub::Told::Refused(why) => refusal(why),
     }
 }
@@ -125,16 +117,12 @@ pub(crate) fn hub(told: hub::Told) -> u32
 pub(crate) fn hub_values(told: hub::Told, answer: usize, values: &mut [usize; 3])
     ensures { HubValues told answer values.new }
 {
-    match told {
-        hub::Told::Nothing => *values = [answer, 0, 0],
-        hub::Told::Added => *values = [answer, 0, 0],
-        hub::Told::Repeated => *values = [answer, 0, 0],
-        hub::Told::Message { code, count } => {
-            let kind = words::wide(code);
-            *values = [answer, kind, count];
+    *values = match told {
+        hub::Told::Message { code, count } => [answer, usize::from(code), count],
+        hub::Told::Nothing | hub::Told::Added | hub::Told::Repeated | hub::Told::Refused(_) => {
+            [answer, 0, 0]
         }
-        hub::Told::Refused(_) => *values = [answer, 0, 0],
-    }
+    };
 }
 
 pub(crate) fn outcome(outcome: Outcome) -> u32
@@ -142,7 +130,7 @@ pub(crate) fn outcome(outcome: Outcome) -> u32
 {
     match outcome {
         Outcome::Nothing => 0,
-        Outcome::Copy { size: _, gap: _ } => 120,
+        Outcome::Copy { .. } => 120,
         Outcome::Delivered(_) => 121,
         Outcome::Failed(_) => 122,
         Outcome::Refused(why) => refusal(why),
@@ -153,44 +141,28 @@ pub(crate) fn outcome_value(outcome: Outcome) -> usize
     ensures { OutcomeValue outcome result }
 {
     match outcome {
-        Outcome::Nothing => 0,
-        Outcome::Copy { size, gap: _ } => size,
-        Outcome::Delivered(copies) => copies,
-        Outcome::Failed(copies) => copies,
-        Outcome::Refused(_) => 0,
+        Outcome::Copy { size, .. } => size,
+        Outcome::Delivered(copies) | Outcome::Failed(copies) => copies,
+        Outcome::Nothing | Outcome::Refused(_) => 0,
     }
 }
 
 fn outcome_gap(outcome: Outcome) -> bool
     ensures { OutcomeGap outcome result }
 {
-    match outcome {
-        Outcome::Nothing => false,
-        Outcome::Copy { size: _, gap } => gap,
-        Outcome::Delivered(_) => false,
-        Outcome::Failed(_) => false,
-        Outcome::Refused(_) => false,
-    }
+    matches!(outcome, Outcome::Copy { gap: true, .. })
 }
 
 pub(crate) fn start_values(outcome: Outcome, values: &mut [usize; 2])
     ensures { StartValues outcome values.new }
 {
-    let value = outcome_value(outcome);
-    let gap = usize::from(outcome_gap(outcome));
-    *values = [value, gap];
+    *values = [outcome_value(outcome), usize::from(outcome_gap(outcome))];
 }
 
 pub(crate) fn refused(outcome: Outcome) -> bool
     ensures { OutcomeRefused outcome result }
 {
-    match outcome {
-        Outcome::Nothing => false,
-        Outcome::Copy { size: _, gap: _ } => false,
-        Outcome::Delivered(_) => false,
-        Outcome::Failed(_) => false,
-        Outcome::Refused(_) => true,
-    }
+    matches!(outcome, Outcome::Refused(_))
 }
 
 pub(crate) fn heard_number(heard: Heard) -> u32
@@ -198,7 +170,7 @@ pub(crate) fn heard_number(heard: Heard) -> u32
 {
     match heard {
         Heard::Ack => 256,
-        Heard::Nak(cause) => cause as u32,
+        Heard::Nak(cause) => u32::from(cause),
         Heard::TimeOut => 257,
         Heard::Nothing => 258,
     }
@@ -215,31 +187,20 @@ pub(crate) fn reader(told: reader::Told, sent: Outcome) -> u32
     }
 }
 
-fn row(beep: Beep) -> [usize; 3]
-    ensures { RowOf beep result }
-{
-    match beep {
-        Beep::Silent => [0; 3],
-        Beep::Row {
-            duration,
-            pitch,
-            count,
-        } => [
-            words::wide(duration),
-            words::wide(pitch),
-            words::wide(count),
-        ],
-    }
-}
-
+// Duration, pitch and number of the beeps that are reported; 0 where there are none.
 fn reader_row(told: reader::Told) -> [usize; 3]
     ensures { ReaderRow told result }
 {
     match told {
-        reader::Told::Nothing => [0; 3],
-        reader::Told::Refused(_) => [0; 3],
-        reader::Told::Acted(beep) => row(beep),
-        reader::Told::Repeated => [0; 3],
+        reader::Told::Acted(Some(beep)) => [
+            usize::from(beep.duration),
+            usize::from(beep.pitch),
+            usize::from(beep.count),
+        ],
+        reader::Told::Nothing
+        | reader::Told::Refused(_)
+        | reader::Told::Acted(None)
+        | reader::Told::Repeated => [0; 3],
     }
 }
 
@@ -252,47 +213,13 @@ pub(crate) fn reader_values(
 )
     ensures { ReaderValues told answer sent changed values.new }
 {
-    let row = reader_row(told);
-    let duration = row[0];
-    let pitch = row[1];
-    let count = row[2];
-    let value = outcome_value(sent);
-    let permanent = usize::from(changed);
-    *values = [answer, duration, pitch, count, value, permanent];
-}
-
-pub(crate) fn written(written: Written) -> u32
-    ensures { WrittenNumber written result }
-{
-    match written {
-        Written::Bytes(_) => 101,
-        Written::Refused(why) => refusal(why),
-    }
-}
-
-pub(crate) fn written_size(written: Written) -> usize
-    ensures { WrittenSize written result }
-{
-    match written {
-        Written::Bytes(size) => size,
-        Written::Refused(_) => 0,
-    }
-}
-
-pub(crate) fn verdict(verdict: Verdict, taken: u32) -> u32
-    ensures { VerdictNumber verdict taken result }
-{
-    match verdict {
-        Verdict::Done => taken,
-        Verdict::Refused(why) => refusal(why),
-    }
-}
-
-pub(crate) fn unread(verdict: Verdict) -> bool
-    ensures { Unread verdict result }
-{
-    match verdict {
-        Verdict::Done => false,
-        Verdict::Refused(_) => true,
-    }
+    let [duration, pitch, count] = reader_row(told);
+    *values = [
+        answer,
+        duration,
+        pitch,
+        count,
+        outcome_value(sent),
+        usize::from(changed),
+    ];
 }

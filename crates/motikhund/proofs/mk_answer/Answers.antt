@@ -1,4 +1,4 @@
--- `motikhund::mk_answer` meets its contract: 13, a number that is no reply, then the packet's answer. Assumes nothing.
+-- `motikhund::mk_answer` meets its contract: 13, nothing, or the packet's call. Assumes nothing.
 use native.Mathlib.Omega.{arith}
 use Rattle.motikhund.proofs.Calls.{answer_13, answer_none, packet_answers}
 use Rattle.motikhund.proofs.mk_answer.Goals as goal
@@ -10,4 +10,4 @@ pub returns-then-reply-gt-LAST_REPLY : goal.returns-then-reply-gt-LAST_REPLY
 returns-then-reply-gt-LAST_REPLY c = answer_none (omega arith) (omega arith)
 
 pub returns : goal.returns
-returns c = packet_answers (omega arith) (omega arith) c.reply.ensures c.answer-built.ensures c.built.ensures c.size_of.ensures
+returns c = packet_answers (omega arith) (omega arith) c.reply.ensures c.answer-built.ensures c.told.ensures c.size_of.ensures

@@ -1,17 +1,10 @@
--- `motikhund::mk_hub_hear` meets its contract: 13 thrice, a number that is no event, then the hub's call between the two translations. Assumes nothing.
+-- `motikhund::mk_hub_hear` meets its contract: 13, nothing, or the hub's call on what the bytes hold. Assumes nothing.
 use native.Mathlib.Omega.{arith}
-use Rattle.motikhund.specs.Lent.{here, there}
-use Rattle.motikhund.proofs.Calls.{hub_13, hub_none, hub_hears_lem}
+use Rattle.motikhund.proofs.Calls.{one_of_3, hub_13, hub_none, hub_hears_lem}
 use Rattle.motikhund.proofs.mk_hub_hear.Goals as goal
 
 pub returns-then-control-lt-HUB_CONTROL_SIZE : goal.returns-then-control-lt-HUB_CONTROL_SIZE
-returns-then-control-lt-HUB_CONTROL_SIZE c = hub_13 (here (omega arith))
-
-pub returns-then-answer-lt-HUB_ANSWER_SIZE : goal.returns-then-answer-lt-HUB_ANSWER_SIZE
-returns-then-answer-lt-HUB_ANSWER_SIZE c = hub_13 (there (here (omega arith)))
-
-pub returns-then-message-lt-MESSAGE_SIZE : goal.returns-then-message-lt-MESSAGE_SIZE
-returns-then-message-lt-MESSAGE_SIZE c = hub_13 (there (there (here (omega arith))))
+returns-then-control-lt-HUB_CONTROL_SIZE c = hub_13 (one_of_3 c.then-control-lt-HUB_CONTROL_SIZE.either)
 
 pub returns-then-event-gt-LAST_EVENT : goal.returns-then-event-gt-LAST_EVENT
 returns-then-event-gt-LAST_EVENT c = hub_none (omega arith) (omega arith) (omega arith) (omega arith)

@@ -1,4 +1,4 @@
--- `motikhund::block::carry` meets its contract: of the hub only its line is written anew. Assumes nothing.
+-- `motikhund::block::carry` meets its contract. Assumes nothing.
 use Rattle.motikhund.proofs.Turning.{carries_bytes}
 use Rattle.motikhund.proofs.block.carry.Goals as goal
 

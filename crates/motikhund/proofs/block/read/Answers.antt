@@ -35,9 +35,6 @@ pub bounds-bytes-at : goal.bounds-bytes-at
 bounds-bytes-at c = let g = c.loop-at.invariant.leads _ _ _ _ _ c.packets.invariant in
     before_end _ _ (goes_silent g c.carry-at.ensures).reading.within c.if-at-bytes.false
 
-pub overflow_cast-event : goal.overflow_cast-event
-overflow_cast-event c = omega (arith, c.shared_slice_known-in-loop-at-1.given (c.loop-at.at + c.carry-at.result))
-
 pub slice_bounds-mk_hub_hear-count : goal.slice_bounds-mk_hub_hear-count
 slice_bounds-mk_hub_hear-count c = let g = c.loop-at.invariant.leads _ _ _ _ _ c.packets.invariant in
     let w = room_open g.goes in
@@ -60,7 +57,7 @@ overflow_add-out c = let g = c.loop-at.invariant.leads _ _ _ _ _ c.packets.invar
     let full = still_full g c.requires.2 in
     let at = c.loop-at.at + c.carry-at.result in
     let small : get_or c.args.bytes.now at 0 < 256 = omega (arith, c.shared_slice_known-in-loop-at-1.given at) in
-    let h = event g k (still_long g c.requires.0) full small c.mk_hub_hear-number.ensures in
+    let h = event g k (still_long g c.requires.0) full small (rw c.from-event.ensures at c.mk_hub_hear-number.ensures) in
     let f = out_fits g k end full small h in
     let e = room_length g.goes in
     omega (arith, f, e, c.well_formed.1.1.1.0.0)
@@ -72,7 +69,7 @@ overflow_sub-answer c = let g = c.loop-at.invariant.leads _ _ _ _ _ c.packets.in
     let full = still_full g c.requires.2 in
     let at = c.loop-at.at + c.carry-at.result in
     let small : get_or c.args.bytes.now at 0 < 256 = omega (arith, c.shared_slice_known-in-loop-at-1.given at) in
-    let h = event g k (still_long g c.requires.0) full small c.mk_hub_hear-number.ensures in
+    let h = event g k (still_long g c.requires.0) full small (rw c.from-event.ensures at c.mk_hub_hear-number.ensures) in
     let f = out_fits g k end full small h in
     let e = out_length g k end full small h in
     omega (arith, f, e)
@@ -90,7 +87,7 @@ packets-preserved c = let g = c.loop-at.invariant.leads _ _ _ _ _ c.packets.inva
     let full = still_full g c.requires.2 in
     let at = c.loop-at.at + c.carry-at.result in
     let small : get_or c.args.bytes.now at 0 < 256 = omega (arith, c.shared_slice_known-in-loop-at-1.given at) in
-    let h = event g k (still_long g c.requires.0) full small c.mk_hub_hear-number.ensures in
+    let h = event g k (still_long g c.requires.0) full small (rw c.from-event.ensures at c.mk_hub_hear-number.ensures) in
     going_again (turned g k end full small h c.named-told.ensures refl c.leaving.ensures) (λ z. omega arith) c.if-leaving.false
 
 pub loop-at-smaller : goal.loop-at-smaller
@@ -105,7 +102,7 @@ loop-at-preserved c = let g = c.loop-at.invariant.leads _ _ _ _ _ c.packets.inva
     let full = still_full g c.requires.2 in
     let at = c.loop-at.at + c.carry-at.result in
     let small : get_or c.args.bytes.now at 0 < 256 = omega (arith, c.shared_slice_known-in-loop-at-1.given at) in
-    let h = event g k (still_long g c.requires.0) full small c.mk_hub_hear-number.ensures in
+    let h = event g k (still_long g c.requires.0) full small (rw c.from-event.ensures at c.mk_hub_hear-number.ensures) in
     let m = c.loop-at.invariant.least in
     record {
       least = omega (arith, m);
@@ -151,7 +148,7 @@ shape_of-answer-then-leaving c = let g = c.loop-at.invariant.leads _ _ _ _ _ c.p
     let full = still_full g c.requires.2 in
     let at = c.loop-at.at + c.carry-at.result in
     let small : get_or c.args.bytes.now at 0 < 256 = omega (arith, c.shared_slice_known-in-loop-at-1.given at) in
-    let h = event g k (still_long g c.requires.0) full small c.mk_hub_hear-number.ensures in
+    let h = event g k (still_long g c.requires.0) full small (rw c.from-event.ensures at c.mk_hub_hear-number.ensures) in
     out_length g k end full small h ∙ room_length g.goes
 
 pub shape_of-message-then-leaving : goal.shape_of-message-then-leaving
@@ -165,5 +162,5 @@ returns-then-leaving c = let g = c.loop-at.invariant.leads _ _ _ _ _ c.packets.i
     let full = still_full g c.requires.2 in
     let at = c.loop-at.at + c.carry-at.result in
     let small : get_or c.args.bytes.now at 0 < 256 = omega (arith, c.shared_slice_known-in-loop-at-1.given at) in
-    let h = event g k (still_long g c.requires.0) full small c.mk_hub_hear-number.ensures in
+    let h = event g k (still_long g c.requires.0) full small (rw c.from-event.ensures at c.mk_hub_hear-number.ensures) in
     record { takes = takes_turn c.requires.1 c.requires.2 c.requires.3 (turned g k end full small h c.named-told.ensures refl c.leaving.ensures) (λ z. omega arith) c.if-leaving.true }

@@ -1,13 +1,13 @@
 -- `control::put` meets its contract: the part, and behind it what stood there. Assumes nothing.
-use Prim.Native.Nat.{ℕ}
-use mathlib.Core.Path.{◌≡◌, refl}
-use lib.ListN.{length}
-use borrow.Author.Rules.{rules}
-use Rattle.words.specs.Lists.{over}
+use native.Mathlib.Omega.{arith}
+use Rattle.words.proofs.Loops.{copied_none, copied_more, copied_all}
 use Rattle.motikhund.proofs.control.put.Goals as goal
 
+pub loop-i-init : goal.loop-i-init
+loop-i-init g c = copied_none (omega arith)
+
+pub loop-i-preserved : goal.loop-i-preserved
+loop-i-preserved g c = copied_more c.loop-i.invariant (omega arith)
+
 pub returns : goal.returns
-unfolding over
-returns g c =
-    let long : length c.args.part.now ≡ g.row.N = search rules in
-    record { is = rw (c.copy_from_slice.ensures.after, long) refl }
+returns g c = copied_all c.loop-i.invariant (omega arith)

@@ -3,4 +3,4 @@ use Rattle.motikhund.proofs.Telling.{reader_values_lem}
 use Rattle.motikhund.proofs.numbers.reader_values.Goals as goal
 
 pub returns : goal.returns
-returns c = reader_values_lem c.reader_row-row.ensures c.outcome_value-value.ensures c.from-permanent.ensures
+returns c = reader_values_lem c.reader_row.ensures c.outcome_value.ensures c.from.ensures

