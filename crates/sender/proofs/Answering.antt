@@ -128,11 +128,13 @@ module _ {room front : List ℕ} (f : IsFirstChunk room front 257) where
   pub front_same : front ++ drop 257 room ≡ room
   front_same = rw f.same (take-append-drop 257 room)
 
-  pub front_over : (p : List ℕ) {part : List ℕ} → length part ≡ 257 → part ≡ over p front → part ++ drop 257 room ≡ over p room
+  pub front_over : (p : List ℕ) {part : List ℕ} → length (part ++ drop 257 room) ≡ length room → part ≡ over p front → part ++ drop 257 room ≡ over p room
   unfolding over over_at
   front_over p {part} l e =
       let enough = f.enough in
+      let whole = simp (length-append, length-drop) at l in
       let long : length part ≡ length p + (length front - length p) = ap length e ∙ simp (length-append, length-drop) in
+      let wide = ap length f.same ∙ length-take 257 room in
       part_over 0 257 p room part (omega arith) enough (e ∙ rw f.same refl)
 
 pub hear_room : {s : Sender} {buffer room : List ℕ} {h : Heard} {r : Sending} → length room < 257 → Refuses s refusal.Room r → Hears s buffer room h r room
@@ -161,9 +163,9 @@ module _ {s n : Sender} {buffer room : List ℕ} {h : Heard} (l : 257 ≤ length
         room_is = a.room_is ∙ rw (le-ltb (length room) 257 l, state_sound s n buffer k) refl;
       }
 
-  pub hear_out : {front part : List ℕ} {r : Sending} → length buffer ≡ 4096 → IsFirstChunk room front 257 → length part ≡ 257 →
+  pub hear_out : {front part : List ℕ} {r : Sending} → length buffer ≡ 4096 → IsFirstChunk room front 257 → length (part ++ drop 257 room) ≡ length room →
       OutSteps n buffer front h r part → Hears s buffer room h r (part ++ drop 257 room)
-  hear_out long f w a = hear_by (control_stands s buffer h long) (record { is = a.is; room_is = front_over f _ w a.room_is })
+  hear_out long f l a = hear_by (control_stands s buffer h long) (record { is = a.is; room_is = front_over f _ l a.room_is })
 
   pub hear_nothing : {front : List ℕ} → IsFirstChunk room front 257 → n.out ≡ false →
       Hears s buffer room h (record { sender = n; outcome = outcome.Nothing }) (front ++ drop 257 room)
@@ -322,9 +324,9 @@ pub begun_out_by : {i : Sender} {m : List ℕ} (code : ℕ) {n : ℕ} → length
 begun_out_by {m = m} code l i k = rw (begun_is code i k) (begun_out code m [] l)
 
 pub start_copy : {s n : Sender} {buffer buffer' room front part m : List ℕ} {code : ℕ} {r : Sending} → length m ≤ 4096 → Sounds s n → n.out ≡ false →
-    IsFirstChunk room front 257 → length part ≡ 257 → Begins n buffer front code m r buffer' part → Starts s buffer room code m r buffer' (part ++ drop 257 room)
+    IsFirstChunk room front 257 → length (part ++ drop 257 room) ≡ length room → Begins n buffer front code m r buffer' part → Starts s buffer room code m r buffer' (part ++ drop 257 room)
 unfolding started_of start_step some name_of copy_of
-start_copy {s} {n} {buffer} {buffer'} {room} {m = m} {code = code} l k o f wide b =
+start_copy {s} {n} {buffer} {buffer'} {room} {m = m} {code = code} l k o f whole b =
     let filled = b.buffer_is in
     let w = b.copies.writes in
     let tests = le-ltb (length room) 257 f.enough in
@@ -335,5 +337,5 @@ start_copy {s} {n} {buffer} {buffer'} {room} {m = m} {code = code} l k o f wide 
       is = w.is ∙ simp (tests, short, rests, step, filled);
       next = simp (tests, short, rests, step, filled, w.is) (state_out (begun_control code m) (over m buffer) (begun_out code m buffer l));
       buffer_is = filled ∙ simp (tests, short, rests);
-      room_is = front_over f _ wide w.room_is ∙ simp (tests, short, rests, step, filled);
+      room_is = front_over f _ whole w.room_is ∙ simp (tests, short, rests, step, filled);
     }

@@ -1,8 +1,5 @@
 -- `sender::hear` meets its contract: 13, then the answer of a sound control value. Assumes nothing.
-use Prim.Native.Nat.{ℕ}
-use mathlib.Core.Path.{◌≡◌}
 use native.Mathlib.Omega.{arith}
-use lib.ListN.{length, length-append, length-drop}
 use Rattle.sender.proofs.Answering.{hear_room, hear_out, hear_nothing}
 use Rattle.sender.proofs.Placing.{sounds_out}
 use Rattle.sender.proofs.hear.Goals as goal
@@ -14,10 +11,7 @@ pub out_step-requires : goal.out_step-requires
 out_step-requires c = sounds_out c.sound-now.ensures c.if-now.true
 
 pub returns-then-now : goal.returns-then-now
-returns-then-now c =
-    let front = c.in-Some.ensures.cases in
-    let wide : length c.out_step.new.room ≡ 257 = omega (arith, length-append {A = ℕ}, length-drop {A = ℕ}) in
-    hear_out front.enough c.sound-now.ensures c.told-buffer front wide c.out_step.ensures
+returns-then-now c = let front = c.in-Some.ensures.cases in hear_out front.enough c.sound-now.ensures c.told-buffer front (omega arith) c.out_step.ensures
 
 pub returns : goal.returns
 returns c = let front = c.in-Some.ensures.cases in hear_nothing front.enough c.sound-now.ensures front c.if-now.false

@@ -1,8 +1,5 @@
 -- `sender::start` meets its contract: 13, then 11, then the message is begun. Assumes nothing.
-use Prim.Native.Nat.{ℕ}
-use mathlib.Core.Path.{◌≡◌}
 use native.Mathlib.Omega.{arith}
-use lib.ListN.{length, length-append, length-drop}
 use Rattle.sender.proofs.Answering.{start_room, start_long, start_waits, start_copy}
 use Rattle.sender.proofs.start.Goals as goal
 use Rattle.sender.proofs.start.Goals.{then-message-gt-MESSAGE_SIZE-via-then-message-gt-MESSAGE_SIZE, then-message-gt-MESSAGE_SIZE-via-else-message-gt-MESSAGE_SIZE+then-now}
@@ -20,7 +17,4 @@ returns-then-message-gt-MESSAGE_SIZE c =
     ]
 
 pub returns : goal.returns
-returns c =
-    let front = c.in-Some.ensures.cases in
-    let wide : length c.begin.new.room ≡ 257 = omega (arith, length-append {A = ℕ}, length-drop {A = ℕ}) in
-    start_copy c.if-message-gt-MESSAGE_SIZE.false c.sound-now.ensures c.if-now.false front wide c.begin.ensures
+returns c = start_copy c.if-message-gt-MESSAGE_SIZE.false c.sound-now.ensures c.if-now.false c.in-Some.ensures.cases (omega arith) c.begin.ensures
