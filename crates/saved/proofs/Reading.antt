@@ -1,6 +1,6 @@
 -- What the reader of a form finds: one law for each `return`, and what its loops keep. Assumes nothing.
 use Prim.Native.Nat.{ℕ, zero, suc, ◌+◌, ◌*◌, ◌≤◌, ◌<◌}
-use mathlib.Core.Path.{◌≡◌, refl, sym, ap, ◌∙◌}
+use mathlib.Core.Path.{◌≡◌, refl, sym, ap, subst, ◌∙◌}
 use mathlib.Core.Bool.{Bool, true, false}
 use mathlib.Core.List.{List, [], ◌∷◌}
 use native.Mathlib.Numerals.{add-one}
@@ -16,10 +16,15 @@ use Rattle.std.proofs.lemmas.Grind.{same_number_lists}
 use Rattle.words.proofs.Loops.{Filling, filled_none, filled_more, filled_all}
 use Rattle.packet.specs.declared.Refusal.TheVariants.{Form}
 use Rattle.table.specs.Rows.{parameter_count, rows, supported, row_allows, allowed}
-use Rattle.table.specs.Promises.{Allowed, values_of, changed_of}
+use Rattle.table.specs.Promises.{row_of, values_of, changed_of}
 use Rattle.table.specs.declared.Table.{Table}
+use Rattle.table.specs.declared.Setting.{Setting}
+use Rattle.table.specs.declared.TheConstants.{SETTINGS}
+use Rattle.std.specs.Prelude.{map}
+use Rattle.std.specs.List.{list_all, zip}
 use Rattle.std.specs.Prelude.{Ok, Err}
-use Rattle.table.proofs.Finding.{many, place_at, setting_at, setting_row}
+use Rattle.table.proofs.Finding.{many, place_at, setting_at, setting_row, settings_rows}
+use Rattle.table.proofs.Changing.{and_both}
 use Rattle.saved.specs.Saved.{edition1, form_of, values_in, locks_in, standing, rows_allow, is_form, read_form}
 use Rattle.saved.specs.Promises.{least_size, Loads, Puts, Stands, ValuesIn, LocksIn, ComesNext, Exact, AllAllowed}
 use Rattle.saved.proofs.Forms.{one_most, length_values, length_locks_in}
@@ -123,36 +128,30 @@ pub row_allowed : (i v : ℕ) → i < length rows → allowed (get_or (get_or ro
 unfolding allowed supported
 row_allowed i v h = rw (place_at i h) (simp (lt-ltb i parameter_count (let m = many in omega arith)))
 
-allow_step : (values : List ℕ) (i : ℕ) → i < length rows → i < length values →
-    rows_allow (drop i rows) (drop i values) ≡ both (row_allows (get_or rows i []) (get_or values i 0)) (rows_allow (drop (suc i) rows) (drop (suc i) values))
+-- The settings beside the values, and the rows beside them.
+rows_beside : (settings : List Setting) (values : List ℕ) → length settings ≤ length values →
+    ((k v : ℕ) → k < length settings → allowed (get_or settings k (record { number = 0; lowest = 0; highest = 0; default = 0 })).number v
+    ≡ row_allows (row_of (get_or settings k (record { number = 0; lowest = 0; highest = 0; default = 0 }))) v) →
+    list_all (λ p. allowed p.0.number p.1) (zip settings values) ≡ rows_allow (map row_of settings) values
 unfolding rows_allow
-allow_step values i h l = rw (drop-cons rows i [] h, drop-cons values i 0 l) refl
+rows_beside [] values l k = refl
+rows_beside (s ∷ rest) [] l k = absurd (omega arith)
+rows_beside (s ∷ rest) (v ∷ vs) l k =
+    and_both (allowed s.number v) (list_all (λ p. allowed p.0.number p.1) (zip rest vs))
+    ∙ rw (k 0 v (omega arith), rows_beside rest vs (omega arith) (λ i w h. k (suc i) w (omega arith))) refl
 
--- Every value passed is allowed, so the judgement is that of the rest.
-pub record Allowing (values : List ℕ) (i : ℕ) : Type 0 where
-  pub at : i ≤ parameter_count
-  pub long : length values ≡ parameter_count
-  pub rest : rows_allow rows values ≡ rows_allow (drop i rows) (drop i values)
+setting_allowed : (i v : ℕ) → i < parameter_count → allowed (setting_at i).number v ≡ row_allows (row_of (setting_at i)) v
+setting_allowed i v h =
+    subst (λ (row : List ℕ). allowed (get_or row 0 0) v ≡ row_allows row v) (setting_row i h) (row_allowed i v (let m = many in omega arith))
 
-pub allowing_none : {values : List ℕ} → length values ≡ parameter_count → Allowing values 0
-allowing_none e = record { at = omega arith; long = e; rest = refl }
-
-module _ {values : List ℕ} {i : ℕ} {r : Bool} (k : Allowing values i) (h : i < parameter_count) (a : Allowed (setting_at i).number (get_or values i 0) r) where
-  allow_here : row_allows (get_or rows i []) (get_or values i 0) ≡ r
-  allow_here = sym (a.is ∙ (ap (λ (n : ℕ). allowed n (get_or values i 0)) (number_row i h) ∙ row_allowed i (get_or values i 0) (let m = many in omega arith)))
-
-  allow_one : rows_allow rows values ≡ both r (rows_allow (drop (suc i) rows) (drop (suc i) values))
-  allow_one = k.rest ∙ (allow_step values i (let m = many in omega arith) (omega (arith, k.long)) ∙ rw (allow_here) refl)
-
-  pub allowing_more : r ≡ true → Allowing values (i + 1)
-  allowing_more e = record { at = omega arith; long = k.long; rest = rw (add-one i) (allow_one ∙ rw e refl) }
-
-  pub allowing_bad : r ≡ false → AllAllowed values false
-  allowing_bad e = record { is = sym (allow_one ∙ rw e refl) }
-
-pub allowing_all : {values : List ℕ} {i : ℕ} → Allowing values i → parameter_count ≤ i → AllAllowed values true
-unfolding rows_allow
-allowing_all {values} {i} k h = record { is = sym (k.rest ∙ rw (drop_of_length-le rows {i = i} (let m = many in omega arith)) refl) }
+pub all_judged : {values : List ℕ} {r : Bool} → length values ≡ parameter_count → r ≡ list_all (λ p. allowed p.0.number p.1) (zip SETTINGS values) → AllAllowed values r
+all_judged {values} l e =
+    record {
+      is =
+          e
+          ∙ (rows_beside SETTINGS values (omega arith) setting_allowed
+          ∙ ap (λ (table : List (List ℕ)). rows_allow table values) settings_rows);
+    }
 
 -- ---- `exact` and `load`
 
@@ -160,8 +159,8 @@ module _ {t : Table} {form again again' : List ℕ} {count : ℕ} {r : Bool} (p 
   again_is : take count again' ≡ form_of edition1 (values_of t)
   again_is = rw p.room_is (take_over (form_of edition1 (values_of t)) again count p.is)
 
-  pub exact_other : r ≡ false → Exact t form false
-  exact_other e = record { is = sym (rw (← again_is, ← c.is, e) refl) }
+  pub exact_other : r ≡ false → Exact t form r
+  exact_other e = record { is = e ∙ sym (rw (← again_is, ← c.is, e) refl) }
 
   pub exact_same : {r' : Bool} → r ≡ true → AllAllowed t.permanent r' → Exact t form r'
   exact_same e a = record { is = a.is ∙ sym (rw (← again_is, ← c.is, e) refl) }

@@ -140,10 +140,8 @@ fn exact(set: Table, form: &[u8]) -> bool
 pub fn all_allowed(values: [u8; PARAMETER_COUNT]) -> bool
     ensures { AllAllowed values result }
 {
-    for (i, setting) in SETTINGS.iter().enumerate() {
-        if !table::allowed(setting.number, values[i]) {
-            return false;
-        }
-    }
-    true
+    SETTINGS
+        .iter()
+        .zip(&values)
+        .all(|(setting, value)| table::allowed(setting.number, *value))
 }

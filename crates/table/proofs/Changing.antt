@@ -69,9 +69,9 @@ odd_read (code ∷ bytes) = simp (lt-ltb 0 (suc (length bytes)) (omega arith)) (
 pub send_length : {carried : List ℕ} → SendLengthAllowed carried (eqb (length carried % 2) 1)
 send_length {carried} = record { is = sym (odd_read carried) }
 
-pub request_none : {carried : List ℕ} → length carried ≡ 0 → RequestLengthAllowed carried false
+pub request_none : {carried : List ℕ} {empty : Bool} → empty ≡ true → length carried ≡ 0 → RequestLengthAllowed carried (not empty)
 unfolding request_length_allowed
-request_none {carried} e = record { is = sym (simp e) }
+request_none {carried} n e = record { is = simp (n, e) }
 
 pub request_some : {carried : List ℕ} → (length carried ≡ 0 → ⊥) → RequestLengthAllowed carried (leb (length carried) data_size)
 unfolding request_length_allowed
@@ -84,9 +84,9 @@ unfolding locked_in
 locked_at locked p = ap (λ (i : ℕ). get_or locked i false) (sym (found_at p))
 
 module _ {locked : List Bool} {number value at : ℕ} (p : Place number (Some at)) where
-  pub settable_locked : get_or locked at false ≡ true → Settable locked number value false
+  pub settable_locked : get_or locked at false ≡ true → Settable locked number value (not (get_or locked at false))
   unfolding settable
-  settable_locked e = record { is = simp (locked_at locked p ∙ e) }
+  settable_locked e = record { is = simp (e, locked_at locked p ∙ e) }
 
   pub settable_free : {r : Bool} → get_or locked at false ≡ false → Takes (setting_at at) value r → Settable locked number value r
   unfolding settable
@@ -97,7 +97,7 @@ unfolding settable
 settable_unknown {locked} {number} {value} p =
     record { is = sym (both_false (not (locked_in locked number)) (allowed number value) (sym (allowed_unknown p).is)) }
 
-and_both : (a b : Bool) → a && b ≡ both a b
+pub and_both : (a b : Bool) → a && b ≡ both a b
 and_both true b = refl
 and_both false b = refl
 

@@ -1,16 +1,14 @@
--- `saved::all_allowed` meets its contract: at each turn every value passed is allowed. Assumes nothing.
+-- `saved::all_allowed` meets its contract: the library's `all` over the settings beside the values. Assumes nothing.
 use borrow.Author.Rules.{rules}
-use Rattle.saved.proofs.Reading.{allowing_none, allowing_more, allowing_bad, allowing_all}
+use borrow.Author.Tests.{tests}
+use Rattle.std.proofs.lemmas.Iterator.{YieldsList-from_slice, YieldsList-from_zip}
+use Rattle.std.proofs.lemmas.Iterator.Search.{all_from_yields_List}
+use Rattle.table.specs.Rows.{allowed}
+use Rattle.table.specs.declared.TheConstants.{SETTINGS}
+use Rattle.saved.proofs.Reading.{all_judged}
 use Rattle.saved.proofs.all_allowed.Goals as goal
 
-pub loop-i-init : goal.loop-i-init
-loop-i-init c = allowing_none (search rules)
-
-pub returns-then-not-allowed : goal.returns-then-not-allowed
-returns-then-not-allowed c = allowing_bad c.loop-i.invariant c.loop-i-test.true c.allowed.ensures c.if-not-allowed.true
-
-pub loop-i-preserved : goal.loop-i-preserved
-loop-i-preserved c = allowing_more c.loop-i.invariant c.loop-i-test.true c.allowed.ensures c.if-not-allowed.false
-
 pub returns : goal.returns
-returns c = allowing_all c.loop-i.invariant c.loop-i-test.false
+returns c =
+    all_judged (search rules)
+    (all_from_yields_List (λ p. allowed p.0.number p.1) c.all.new.self _ c.all.result c.all.ensures.ran (YieldsList-from_zip {s = c.zip.result} (YieldsList-from_slice SETTINGS cc) (YieldsList-from_slice c.args.values cc)) (λ x b q k. search (rules, tests)))

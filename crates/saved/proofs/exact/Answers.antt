@@ -6,4 +6,4 @@ pub returns-then-same : goal.returns-then-same
 returns-then-same c = exact_same c.put-count.ensures c.same.ensures c.if-same.true c.all_allowed.ensures
 
 pub returns-else-same : goal.returns-else-same
-returns-else-same c = rw c.if-same.false (exact_other c.put-count.ensures c.same.ensures c.if-same.false)
+returns-else-same c = exact_other c.put-count.ensures c.same.ensures c.if-same.false

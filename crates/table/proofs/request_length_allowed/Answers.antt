@@ -9,5 +9,4 @@ pub returns-then-not-is_empty : goal.returns-then-not-is_empty
 returns-then-not-is_empty c = request_some (eqb-false (length c.args.data.now) 0 (sym c.is_empty.ensures ∙ c.if-not-is_empty.true))
 
 pub returns-else-not-is_empty : goal.returns-else-not-is_empty
-returns-else-not-is_empty c =
-    rw c.if-not-is_empty.false (request_none (eqb-true (length c.args.data.now) 0 (sym c.is_empty.ensures ∙ c.if-not-is_empty.false)))
+returns-else-not-is_empty c = request_none c.if-not-is_empty.false (eqb-true (length c.args.data.now) 0 (sym c.is_empty.ensures ∙ c.if-not-is_empty.false))

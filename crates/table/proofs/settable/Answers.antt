@@ -17,7 +17,7 @@ pub returns-then-not-locked-at : goal.returns-then-not-locked-at
 returns-then-not-locked-at c = settable_free c.in-Some.ensures c.if-not-locked-at.true c.takes.ensures
 
 pub returns-else-not-locked-at : goal.returns-else-not-locked-at
-returns-else-not-locked-at c = rw c.if-not-locked-at.false (settable_locked c.in-Some.ensures c.if-not-locked-at.false)
+returns-else-not-locked-at c = settable_locked c.in-Some.ensures c.if-not-locked-at.false
 
 pub returns-in-None : goal.returns-in-None
 returns-in-None c = settable_unknown c.in-None.ensures
