@@ -19,7 +19,7 @@ use Rattle.table.specs.Rows.{parameter_count, pairs_size, rows, place_of, suppor
 use Rattle.table.specs.Table.{Values, value_of, member, asked_for, numbers_of, answered_numbers, pair_bytes, answer_data}
 use Rattle.table.specs.Promises.{Answers, Place, AllPairs, AskedPairs, Fits, Asks, asks, marks, showing, values_of}
 use Rattle.table.specs.declared.Table.{Table}
-use Rattle.table.proofs.Finding.{many, setting_at, setting_row, place_at, same_place, found_at, found_most, not_found}
+use Rattle.table.proofs.Finding.{many, setting_at, setting_row, place_at, same_place, found_at, not_found}
 
 -- FEh anywhere in the list, as the library's `contains` looks for it.
 or_either : (a b : Bool) → a || b ≡ either a b
@@ -162,18 +162,18 @@ ask_unknown {number = number} p = ask_not (simp (in_rows number ∙ not_found p)
 
 module _ {seen : List Bool} {at number row : ℕ} {room : List ℕ} (p : Place number (Some row)) where
   pub room_left : Fits seen at room → get_or seen row false ≡ false → at + 2 ≤ length room
-  room_left f e = left_by_lem seen at row room f (found_most p) e
+  room_left f e = left_by_lem seen at row room f (p.inside) e
 
   module _ {values : List ℕ} where
     pub ask_again : get_or seen row false ≡ true → Asks seen at values number room at seen room
     unfolding asks
-    ask_again e = ask_not (simp (sym (found_at p), lt-ltb row parameter_count (found_most p), e))
+    ask_again e = ask_not (simp (sym (found_at p), lt-ltb row parameter_count (p.inside), e))
 
     pub ask_new : Fits seen at room → get_or seen row false ≡ false →
         Asks seen at values number room (at + 2) (set seen row true) (set (set room at number) (at + 1) (get_or values row 0))
     unfolding asks
     ask_new f e =
-        let y : asks seen number ≡ true = simp (sym (found_at p), lt-ltb row parameter_count (found_most p), e) in
+        let y : asks seen number ≡ true = simp (sym (found_at p), lt-ltb row parameter_count (p.inside), e) in
         record {
           is = simp y;
           seen_is = rw y (rw (found_at p) refl);

@@ -13,7 +13,7 @@ use borrow.Author.Tests.{eq-eqb, ne_eqb, le-leb, lt-leb, eqb-true, ltb-true, ltb
 use Rattle.words.specs.Lists.{pick, both, either}
 use Rattle.words.proofs.Lists.{both_left, both_right}
 use Rattle.table.specs.Rows.{parameter_count, rows, place_in, place_of, supported, trigger_allowed, range_allowed, row_allows, allowed, defaults_of}
-use Rattle.std.specs.Prelude.{map, cond, not, Option, Some, None}
+use Rattle.std.specs.Prelude.{map, cond, not, Option, Some, None, IfSome}
 use Rattle.std.proofs.lemmas.Grind.{same_number_lists}
 use Rattle.std.specs.Fn.{Called}
 use Rattle.std.specs.Array.{IsFromFnResultFrom}
@@ -74,16 +74,6 @@ position_place : (settings : List Setting) (number : ℕ) →
     ≡ pick (ltb (place_in (map row_of settings) number) (length settings)) (Some (place_in (map row_of settings) number)) None
 position_place settings number = rw (first_place settings number) refl
 
-pub placed : {number : ℕ} {r : Option ℕ} → r ≡ position (λ s. eqb s.number number) SETTINGS → Place number r
-unfolding supported
-placed {number} e =
-    record {
-      is =
-          e
-          ∙ subst (λ (table : List (List ℕ)). position (λ s. eqb s.number number) SETTINGS ≡ pick (ltb (place_in table number) 9) (Some (place_in table number)) None) settings_rows
-          (position_place SETTINGS number);
-    }
-
 found_by : (d : Bool) (n at : ℕ) → Some at ≡ pick d (Some n) None → (d ≡ true) × (at ≡ n)
 found_by true n at e = (refl, cc)
 found_by false n at e = absurd (cc)
@@ -107,8 +97,20 @@ pub place_most : (number : ℕ) → supported number ≡ true → place_of numbe
 unfolding supported
 place_most number s = ltb-true (place_of number) parameter_count s
 
-pub found_most : {number at : ℕ} → Place number (Some at) → at < parameter_count
-found_most {number} p = let m = place_most number (found_supported p) in omega (arith, found_at p)
+inside_by : (d : Bool) (n : ℕ) → (d ≡ true → n < parameter_count) → IfSome (pick d (Some n) None) (λ at. at < parameter_count)
+inside_by true n k = k refl
+inside_by false n k = tt
+
+place_is : (number : ℕ) → position (λ s. eqb s.number number) SETTINGS ≡ pick (supported number) (Some (place_of number)) None
+unfolding supported
+place_is number =
+    subst (λ (table : List (List ℕ)). position (λ s. eqb s.number number) SETTINGS ≡ pick (ltb (place_in table number) 9) (Some (place_in table number)) None) settings_rows
+    (position_place SETTINGS number)
+
+pub placed : {number : ℕ} {r : Option ℕ} → r ≡ position (λ s. eqb s.number number) SETTINGS → Place number r
+placed {number} {r} e =
+    let f = e ∙ place_is number in
+    record { is = f; inside = subst (λ (o : Option ℕ). IfSome o (λ at. at < parameter_count)) (sym f) (inside_by (supported number) (place_of number) (place_most number)) }
 
 -- ---- a row's number and its place
 
@@ -229,7 +231,7 @@ allowed_unknown p = record { is = simp (not_found p) }
 pub allowed_row : {number value at : ℕ} {r : Bool} → Place number (Some at) → Takes (setting_at at) value r → Allowed number value r
 unfolding allowed
 allowed_row {number} {value} {at} p a =
-    record { is = a.is ∙ rw (← setting_row at (found_most p), found_at p) (simp (found_supported p)) }
+    record { is = a.is ∙ rw (← setting_row at (p.inside), found_at p) (simp (found_supported p)) }
 
 -- ---- `value`
 

@@ -1,5 +1,5 @@
 -- What the table's calls promise: the answer, the table, and every byte of the room.
-use Rattle.std.specs.Prelude.{ℕ, ◌+◌, ◌*◌, ◌≤◌, Bool, true, false, not, List, [], ◌∷◌, ◌≡◌, ltb, length, get_or, set, map, Option, Some, None, Result, Ok, Err}
+use Rattle.std.specs.Prelude.{ℕ, ◌+◌, ◌*◌, ◌≤◌, ◌<◌, IfSome, Bool, true, false, not, List, [], ◌∷◌, ◌≡◌, ltb, length, get_or, set, map, Option, Some, None, Result, Ok, Err}
 use Rattle.words.specs.Lists.{pick, both, over, over_at}
 use Rattle.packet.specs.declared.Refusal.{Refusal}
 use Rattle.packet.specs.declared.Refusal.TheVariants as refusal
@@ -72,6 +72,7 @@ pub record Restores (locked : List Bool) (values r : List ℕ) : Type 0 where
 -- A parameter that has a row is found at its place.
 pub record Place (number : ℕ) (r : Option ℕ) : Type 0 where
   pub is : r ≡ pick (supported number) (Some (place_of number)) None
+  pub inside : IfSome r (λ at. at < parameter_count)
 
 -- A setting as a row of the rules.
 abbrev pub row_of : Setting → List ℕ

@@ -1,10 +1,6 @@
 -- `table::put` meets its contract: a store at its place, none where it has none. Assumes nothing.
-use Rattle.table.proofs.Finding.{found_most}
 use Rattle.table.proofs.Changing.{put_at, put_none}
 use Rattle.table.proofs.put.Goals as goal
-
-pub bounds-values-at : goal.bounds-values-at
-bounds-values-at c = found_most c.in-Some.ensures
 
 pub returns-in-Some : goal.returns-in-Some
 returns-in-Some c = put_at c.in-Some.ensures

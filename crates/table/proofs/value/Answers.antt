@@ -1,10 +1,7 @@
 -- `table::value` meets its contract: what stands at its place, or 0 where it has none. Assumes nothing.
 use borrow.Author.Rules.{rules}
-use Rattle.table.proofs.Finding.{found_most, value_found, value_none}
+use Rattle.table.proofs.Finding.{value_found, value_none}
 use Rattle.table.proofs.value.Goals as goal
-
-pub bounds-table-at : goal.bounds-table-at
-bounds-table-at c = found_most c.in-Some.ensures
 
 pub returns-in-Some : goal.returns-in-Some
 returns-in-Some c = value_found c.in-Some.ensures
