@@ -74,7 +74,7 @@ module _ (b rest : List ℕ) (k : Body b) where
       let first : get_or (seal b ++ rest) 0 0 ≡ length b = front 0 (omega arith) ∙ k.long in
       rw (k.long, ← front 1 (omega arith), ← front 2 (omega arith), ← front 3 (omega arith))
       (check_right {s = seal b ++ rest} {n = length b}
-      (record { is = sym first; small = omega arith })
+      (sym first)
       (omega arith)
       (omega arith)
       (record { is = ap (λ (l : List ℕ). checksum_of l % 65536) (sym front_part) })

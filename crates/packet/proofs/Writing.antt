@@ -1,5 +1,5 @@
 -- What header and checksum leave in the room, and how they make a packet around its data. Assumes nothing.
-use Prim.Native.Nat.{ℕ, ◌+◌, ◌-◌, ◌/◌, ◌%◌, ◌≤◌}
+use Prim.Native.Nat.{ℕ, ◌+◌, ◌/◌, ◌%◌, ◌≤◌}
 use mathlib.Core.Path.{◌≡◌, refl, sym, ap, ◌∙◌}
 use mathlib.Core.List.{List, [], ◌∷◌, ◌++◌}
 use native.Mathlib.Nat.{add_comm}
@@ -9,8 +9,8 @@ use lib.Seq.{take-append-add}
 use lib.Dec.{leb, eqb}
 use borrow.Author.Tests.{leb-true, le-ltb}
 use mathlib.Core.Bool.{Bool, true, false}
-use Rattle.words.specs.Lists.{pick, over, over_at, Copied}
-use Rattle.words.proofs.Lists.{over_over, over_over_at, length_over_at, take_over, drop_over_at, part_over, copied_over, never}
+use Rattle.words.specs.Lists.{pick, over, over_at}
+use Rattle.words.proofs.Lists.{over_over, over_over_at, length_over_at, take_over, drop_over_at, never}
 use Rattle.packet.specs.Opcodes.{cmd_ack, cmd_nak}
 use Rattle.packet.specs.Packet.{body_of, checksum_of, seal, status_allowed, source_allowed, fields_of, build_of, written, reply_data, reply_opcode, reply_body}
 use Rattle.packet.specs.Promises.{Fields, Headed, Sealed, Put, Fill, Answer, Naks}
@@ -99,12 +99,11 @@ filled room d o s t need {r} {size} {room₂} h g e f =
       f.room_is ∙ rw is-written (sealed_around room d o s t (length d) h refl),
     )
 
-pub put_written : {room d part room₂ : List ℕ} {o s t size : ℕ} {r : Result ℕ Refusal} → length d + 6 ≤ length room → Fields o s t (length d) (Ok size) →
-    Copied d (take (length room - 4) (drop 4 room)) part →
-    Fill (take 4 room ++ (part ++ drop (length room - 4) (drop 4 room))) o s t (length d) r room₂ → Put room o s t d r room₂
-put_written {room} {d} {part} {room₂} {o} {s} {t} {size} {r} h f k g =
-    let long : length (take (length room - 4) (drop 4 room)) ≡ length room - 4 = simp (length-take, length-drop) (omega arith) in
-    let there = part_over 4 (length room - 4) d room part (omega arith) (omega arith) (copied_over (omega arith) k) in
+pub put_written : {room d part room₂ : List ℕ} {o s t size k : ℕ} {r : Result ℕ Refusal} → length d + 6 ≤ length room → Fields o s t (length d) (Ok size) → k ≡ length d → part ≡ d →
+    Fill (take 4 room ++ (part ++ drop k (drop 4 room))) o s t (length d) r room₂ → Put room o s t d r room₂
+unfolding over over_at
+put_written {room} {d} {part} {room₂} {o} {s} {t} {size} {k} {r} h f e p g =
+    let there : take 4 room ++ (part ++ drop k (drop 4 room)) ≡ over_at 4 d room = rw (p, e) refl in
     let done = filled room d o s t (length d + 6) h h (sym f.is) (rw there at g) in
     record { is = done.0 ∙ enough (length d + 6) room o s t (length d) h; room_is = done.1 }
 

@@ -5,8 +5,6 @@ ghost use Rattle.std.specs.Prelude.{◌+◌, ◌≤◌, length};
 ghost use Rattle.packet.specs.Promises.{Number, Cause, Sum, Complement, Check, DataPart, Allowed, AllowedSource, Fields, Headed, Sealed, SizeOf, Build, Put, Fill, Answer, Naks, Equal, Resent, IsAnswer};
 ghost use Rattle.packet.specs.Sizes.{head_size, checksum_size, data_size, body_size};
 
-use words::wide;
-
 // The four bytes before the data, and the checksum behind it.
 pub const HEAD_SIZE: usize = 4;
 
@@ -98,6 +96,7 @@ pub struct Head {
 }
 
 // An answer on the line: CMD_ACK, or CMD_NAK with its cause.
+// stays: an Option of a cause would read as an answer or none.
 #[derive(Clone, Copy)]
 pub enum Reply {
     Ack,
@@ -153,7 +152,7 @@ pub fn check(s: &[u8]) -> Result<Head, Refusal>
     if s.is_empty() {
         return Err(Refusal::Cut);
     }
-    let n = wide(s[0]);
+    let n = usize::from(s[0]);
     if n < HEAD_SIZE {
         return Err(Refusal::Length);
     }
@@ -180,7 +179,7 @@ pub fn data_part(s: &[u8]) -> &[u8]
     if s.len() < HEAD_SIZE {
         return &[];
     }
-    let end = wide(s[0]).clamp(HEAD_SIZE, s.len());
+    let end = usize::from(s[0]).clamp(HEAD_SIZE, s.len());
     &s[HEAD_SIZE..end]
 }
 
@@ -278,7 +277,7 @@ fn put(room: &mut [u8], opcode: u8, source: u8, status: u8, data: &[u8]) -> Resu
     ensures { Put room.old opcode source status «data».now result room.new }
 {
     fields(opcode, source, status, data.len())?;
-    words::copy(data, &mut room[HEAD_SIZE..]);
+    room[HEAD_SIZE..HEAD_SIZE + data.len()].copy_from_slice(data);
     fill(room, opcode, source, status, data.len())
 }
 

@@ -1,7 +1,5 @@
 // The rules at their edges (§2 to §4, §6, §7): names and numbers, short lengths, what building refuses and in which order, the
 // largest packet, and every value of a field.
-ghost use Rattle.std.specs.Prelude.{◌≤◌};
-
 use crate::tally::{Tally, count, hex};
 use crate::trials::{
     Fields, answer, at_most, build_in, built, checked, cut, front, judged, refusal_of, say_fields,
@@ -126,9 +124,7 @@ fn refused(
     status: u8,
     n: usize,
     due: u8,
-)
-    requires { size ≤ 300 }
-{
+) {
     let fields = Fields {
         opcode,
         source,
@@ -159,9 +155,7 @@ fn rooms(rt: &impl Print, t: &mut Tally) {
 }
 
 // Building case 1 into a room of this size.
-fn roomed(rt: &impl Print, t: &mut Tally, size: usize)
-    requires { size ≤ 300 }
-{
+fn roomed(rt: &impl Print, t: &mut Tally, size: usize) {
     let fields = Fields {
         opcode: 0xD0,
         source: 4,

@@ -1,6 +1,6 @@
 // What is tried with a vector: the check, building, damage, and the answers.
 // stays: a refusal that is due is its number in the rules' table, so that no name of the library can be wrong on both sides; None is a packet.
-ghost use Rattle.std.specs.Prelude.{◌<◌, ◌≤◌, length};
+ghost use Rattle.std.specs.Prelude.{◌<◌};
 
 use crate::tally::{Tally, count, hex};
 use packet::{Head, Refusal, Reply};
@@ -188,17 +188,21 @@ pub(crate) fn built(
     judged(rt, t, done, &buffer, due, written);
 }
 
+// The front of a buffer, so many bytes or all of them.
+fn room(buffer: &mut Buffer, size: usize) -> &mut [u8] {
+    let n = size.min(buffer.len());
+    &mut buffer[..n]
+}
+
 // Building into a room that is the front of a buffer.
 pub(crate) fn build_in(
     buffer: &mut Buffer,
     size: usize,
     fields: Fields,
     part: &[u8],
-) -> Result<usize, Refusal>
-    requires { size ≤ 300 }
-{
+) -> Result<usize, Refusal> {
     packet::build(
-        &mut buffer[..size],
+        room(buffer, size),
         fields.opcode,
         fields.source,
         fields.status,
@@ -240,11 +244,9 @@ pub(crate) fn answer(
     reply: Reply,
     due: Option<u8>,
     written: &[u8],
-)
-    requires { size ≤ 300 }
-{
+) {
     let mut buffer = unwritten();
-    let done = packet::answer(&mut buffer[..size], source, reply);
+    let done = packet::answer(room(&mut buffer, size), source, reply);
     let _ = print!(rt; "ANSWER {size}");
     judged(rt, t, done, &buffer, due, written);
 }

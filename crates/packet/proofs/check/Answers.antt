@@ -4,4 +4,4 @@ use Rattle.packet.proofs.Judge.{check_right}
 use Rattle.packet.proofs.check.Goals as goal
 
 pub returns : goal.returns
-returns c = check_right c.wide-n.ensures (omega arith) (omega arith) c.checksum.ensures (omega arith)
+returns c = check_right c.from-n.ensures (omega arith) (omega arith) c.checksum.ensures (omega arith)

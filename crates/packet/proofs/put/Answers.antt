@@ -6,4 +6,4 @@ use Rattle.packet.proofs.put.Goals as goal
 pub returns : goal.returns
 returns c =
     let small = fields_small c.in_ok-fields.ensures in
-    put_written (omega arith) c.in_ok-fields.ensures c.copy.ensures c.fill.ensures
+    put_written (omega arith) c.in_ok-fields.ensures (omega arith) c.copy_from_slice.ensures.after c.fill.ensures
