@@ -2,6 +2,7 @@
 use Prim.Native.Nat.{ℕ, ◌+◌, ◌-◌, ◌≤◌, ◌<◌}
 use mathlib.Core.Path.{◌≡◌, refl, sym, ◌∙◌}
 use mathlib.Core.Bool.{Bool, true, false}
+use mathlib.Core.Logic.{◌⊎◌, inl, inr}
 use mathlib.Core.List.{List, [], ◌∷◌, ◌++◌}
 use native.Mathlib.Omega.{arith}
 use lib.Dec.{eqb}
@@ -95,13 +96,10 @@ module _ {f : Framer} {line : List ℕ} {b n w : ℕ} (long : packet_size ≤ le
       }
 
 -- Nothing is begun.
-pub begun_zero : (f : Framer) → f.count ≡ 0 → begun_of f ≡ 0
+pub begun_zero : {f : Framer} → (f.count ≡ 0) ⊎ (packet_size ≤ f.count) → Begun f 0
 unfolding begun_of
-begun_zero f e = simp e
-
-pub begun_over : (f : Framer) → packet_size ≤ f.count → begun_of f ≡ 0
-unfolding begun_of
-begun_over f h = simp (le-ltb f.count packet_size h)
+begun_zero (inl e) = record { is = simp e; most = omega arith }
+begun_zero {f} (inr h) = record { is = simp (le-ltb f.count packet_size h); most = omega arith }
 
 -- ---- the two halves
 

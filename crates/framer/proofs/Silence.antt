@@ -4,16 +4,16 @@ use mathlib.Core.Path.{◌≡◌, refl, sym, ap, ◌∙◌}
 use mathlib.Core.Bool.{Bool, true, false}
 use mathlib.Core.Logic.{◌⊎◌, inl, inr}
 use mathlib.Core.List.{List, [], ◌∷◌, ◌++◌, map, append_assoc, append-nil}
-use native.Mathlib.Nat.{zero-add}
+use native.Mathlib.Nat.{zero-add, add-sub_cancel_left}
 use native.Mathlib.Numerals.{add-one}
 use native.Mathlib.Omega.{arith}
 use lib.ListN.{length, get_or, take, drop, set, length-append, length-take, length-drop, length-set, take-append-drop, get_or-append}
 use lib.Seq.{length-take-le, get_or-take, take-length, drop-length, set_split, drop-set-add, take-set-lt, take-suc-set}
 use lib.Dec.{eqb, ltb}
 use borrow.Author.Tests.{eqb-true, eqb-false, ltb-true, ltb-false}
-use Rattle.words.specs.Lists.{pick, Bytes, Copied, over_at}
+use Rattle.words.specs.Lists.{pick, Bytes, over, over_at}
 use Rattle.words.specs.Machine.{after, through}
-use Rattle.words.proofs.Lists.{bytes_take, bytes_drop, bytes_append, bytes_cons, bytes_head, bytes_tail, set_over_at, over_at_behind, rest_part, part_over, copied_over}
+use Rattle.words.proofs.Lists.{bytes_take, bytes_drop, bytes_append, bytes_cons, bytes_head, bytes_tail, set_over_at, over_at_behind, rest_part}
 use Rattle.packet.specs.Packet.{check_of}
 use Rattle.packet.specs.Sizes.{packet_size}
 use Rattle.framer.specs.Framer.{hearing, silent, judged, at_byte, framer_step}
@@ -194,6 +194,11 @@ takes_deaf {h} {buffer = buffer} {bytes = b ∷ bs} long k some e d =
     rw d.is
     (taken_in (length (b ∷ bs)) (b ∷ bs) (omega arith) (rw (take-length (b ∷ bs)) (ignores {f = h.framer} {second = h.second} {last = h.last} b bs long k e)) (rw (drop-length (b ∷ bs)) refl))
 
+-- k bytes were lent from a place on, and came back as these.
+pub put_in : (at k : ℕ) (piece room part : List ℕ) → length piece ≡ k → part ≡ piece → take at room ++ (part ++ drop (at + k - at) (drop at room)) ≡ over_at at piece room
+unfolding over over_at
+put_in at k piece room part size e = rw (add-sub_cancel_left at k, e, size) refl
+
 -- What stands of the packet in the half that receives.
 abbrev got_in : Halves → List ℕ → ℕ → List ℕ
 got_in h buffer n = take n (half_of h.second buffer)
@@ -257,8 +262,8 @@ module _ (h : Halves) (buffer bytes : List ℕ) (a n k : ℕ) (long : length buf
       first_is ∙ (ap (λ (l : List ℕ). get_or l 0 0) all ∙ get_or-append (got_in h buffer n ++ (b ∷ bs)) (drop k bytes) 0 0 (omega arith)) in
       moves h.second h.last n h.framer buffer b bs w long bb (rw e at (bytes_take k cb)) hears begun first fits.0 inside.small (let f = fits.1 in omega arith)
 
-  pub takes_moved : {part : List ℕ} → Bytes buffer → Bytes bytes → (k ≡ 0 → ⊥) → Copied (take k bytes) (take (line_size - (a + n)) (drop (a + n) buffer)) part →
-      TakesIn h buffer bytes (record { halves = moved_of h (record { count = n + k; deaf = false }); count = k }) (take (a + n) buffer ++ (part ++ drop (line_size - (a + n)) (drop (a + n) buffer)))
+  pub takes_moved : {part : List ℕ} → Bytes buffer → Bytes bytes → (k ≡ 0 → ⊥) → part ≡ take k bytes →
+      TakesIn h buffer bytes (record { halves = moved_of h (record { count = n + k; deaf = false }); count = k }) (take (a + n) buffer ++ (part ++ drop (a + n + k - (a + n)) (drop (a + n) buffer)))
   takes_moved {part = part} bb cb some copied =
       let few = inside.few in
       let most = place.most in
@@ -266,10 +271,8 @@ module _ (h : Halves) (buffer bytes : List ℕ) (a n k : ℕ) (long : length buf
       let size : length (take k bytes) ≡ k = length-take-le k bytes few in
       let fits = inside.inside some in
       let small = inside.small in
-      let room = take (line_size - (a + n)) (drop (a + n) buffer) in
-      let wide : length room ≡ line_size - (a + n) = simp (length-take, length-drop) (omega arith) in
-      let there : take (a + n) buffer ++ (part ++ drop (line_size - (a + n)) (drop (a + n) buffer)) ≡ over_at (place_of h.second + n) (take k bytes) buffer =
-      part_over (a + n) (line_size - (a + n)) (take k bytes) buffer part (omega arith) (omega arith) (copied_over (omega arith) copied) ∙ rw place.is refl in
+      let there : take (a + n) buffer ++ (part ++ drop (a + n + k - (a + n)) (drop (a + n) buffer)) ≡ over_at (place_of h.second + n) (take k bytes) buffer =
+      put_in (a + n) k (take k bytes) buffer part size copied ∙ rw place.is refl in
       let m = moved_in bb cb (take k bytes) refl (λ z. some (omega arith)) in
       rw there
       (taken_in k bytes few (rw size at m.silently) (rw (rw size at m.line) ends_told))

@@ -5,7 +5,7 @@ ghost use Rattle.std.specs.Prelude.{◌≤◌, ◌<◌, false, ◌≡◌, length
 ghost use Rattle.packet.specs.Sizes.{packet_size};
 ghost use Rattle.framer.specs.Halves.{IdleHalves, Listens, Received, Kept, AcceptsLast, Place, Last, GoesOn, Inside};
 ghost use Rattle.framer.specs.Silence.{TakesIn, LengthOf, InsideOf};
-ghost use Rattle.framer.specs.Promises.{begun_of, Idle, Deaf, Ended, Begun, Gap, Unfinished, Frames};
+ghost use Rattle.framer.specs.Promises.{Idle, Deaf, Ended, Begun, Gap, Unfinished, Frames};
 
 use packet::{CHECKSUM_SIZE, HEAD_SIZE, Head, PACKET_SIZE, Refusal};
 
@@ -23,7 +23,7 @@ pub enum Event {
 }
 
 // Whether all bytes are ignored until the next gap, and how many bytes of the packet begun stand in the line buffer.
-// stays two fields: an exported control value keeps each of its bytes, also one that no run leaves.
+// stays: two fields, since an exported control value keeps each of its bytes, also one that no run leaves.
 #[derive(Clone, Copy)]
 pub struct Framer {
     pub deaf: bool,
@@ -31,7 +31,7 @@ pub struct Framer {
 }
 
 // What an event ended: nothing, a packet that stands at the front of the line buffer, or a refusal.
-// stays an enum: three cases, as a Result in an Option they would be no plainer.
+// stays: an enum of three cases, which as a Result in an Option would be no plainer.
 #[derive(Clone, Copy)]
 pub enum Found {
     Nothing,
@@ -149,7 +149,7 @@ fn unfinished(refusal: Refusal, count: usize) -> Framed
 }
 
 // A framer over two halves of a line buffer: which half receives, and how long the last accepted packet in the other is.
-// stays a length, 0 for none: an exported control value keeps each of its bytes.
+// stays: a length, 0 for none, since an exported control value keeps each of its bytes.
 #[derive(Clone, Copy)]
 pub struct Halves {
     pub framer: Framer,
@@ -189,7 +189,7 @@ pub fn listen(halves: Halves, buffer: &mut [u8; LINE_SIZE], event: Event) -> Lis
 }
 
 // What the short way did with an event.
-// stays an enum: three cases, in an Option one of them would need a number of its own.
+// stays: an enum of three cases, of which one would need a number of its own in an Option.
 #[derive(Clone, Copy)]
 pub enum Going {
     // so many bytes are begun now; deaf or not, the framer is as it was
@@ -220,6 +220,7 @@ fn carry(framer: Framer, second: bool, buffer: &mut [u8; LINE_SIZE], b: u8) -> G
         return Going::On(0);
     }
     let from = place(second);
+    // Lent as a slice, as in `listen`.
     let whole = &mut buffer[..];
     match inside(framer, &mut whole[from..from + PACKET_SIZE], b) {
         Some(count) => Going::On(count),
@@ -233,29 +234,21 @@ fn inside(framer: Framer, line: &mut [u8], b: u8) -> Option<usize>
     ensures { Inside framer line.old b result line.new }
 {
     let n = framer.count;
-    if n == 0 {
-        return first(framer, line, b);
-    }
-    let length = usize::from(line[0]);
-    if n <= length {
-        if length < HEAD_SIZE {
+    if n != 0 {
+        let length = usize::from(line[0]);
+        if n <= length {
+            if length < HEAD_SIZE {
+                return None;
+            }
+            line[n] = b;
+            return Some(n + 1);
+        }
+        // A count that the line buffer cannot have is 0. It is tested last: `begun` before the length costs each byte three instructions.
+        if n < PACKET_SIZE {
             return None;
         }
-        line[n] = b;
-        return Some(n + 1);
     }
-    // A count that the line buffer cannot have is 0. It is tested last: `begun` before the length costs each byte an instruction or two.
-    if n < PACKET_SIZE {
-        return None;
-    }
-    first(framer, line, b)
-}
-
-// The first byte of a packet is its length.
-fn first(framer: Framer, line: &mut [u8], b: u8) -> Option<usize>
-    requires { (packet_size ≤ length line.old) × (framer.deaf ≡ false) × (begun_of framer ≡ 0) }
-    ensures { Inside framer line.old b result line.new }
-{
+    // The first byte of a packet is its length.
     if usize::from(b) < HEAD_SIZE {
         return None;
     }
@@ -307,7 +300,7 @@ pub fn take_in(halves: Halves, buffer: &mut [u8; LINE_SIZE], bytes: &[u8]) -> Ta
     if count == 0 {
         return TakenIn { halves, count };
     }
-    words::copy(&bytes[..count], &mut buffer[from + n..]);
+    buffer[from + n..from + n + count].copy_from_slice(&bytes[..count]);
     TakenIn {
         halves: Halves {
             framer: Framer {

@@ -4,7 +4,7 @@ use mathlib.Core.Path.{◌≡◌, refl, sym, ap, ◌∙◌}
 use mathlib.Core.Bool.{Bool, true, false}
 use mathlib.Core.List.{List, [], ◌++◌}
 use native.Mathlib.Omega.{arith}
-use lib.ListN.{length, take, drop, length-take, length-drop, length-append}
+use lib.ListN.{length, take, drop, length-take, length-drop, length-append, take-append-drop}
 use lib.Seq.{length-take-le}
 use borrow.Author.Tests.{le-leb, le-ltb, lt-ltb}
 use Rattle.words.specs.Lists.{pick, over, over_at}
@@ -176,10 +176,11 @@ pub hear_answer : {hub : Hub} {line gather answer message : List ℕ} {e : Event
 unfolding too_small
 hear_answer {answer = answer} h k = hear_small (simp (lt-ltb (length answer) hub_answer_size h)) k
 
-pub hear_message : {hub : Hub} {line gather answer message : List ℕ} {e : Event} {r : Taken} → hub_answer_size ≤ length answer → length message < message_size → NoRoom hub r →
-    Hears hub line gather answer message e r line gather answer message
+pub hear_message : {hub : Hub} {line gather answer message front : List ℕ} {e : Event} {r : Taken} → hub_answer_size ≤ length answer → front ≡ take hub_answer_size answer →
+    length message < message_size → NoRoom hub r → Hears hub line gather answer message e r line gather (front ++ drop hub_answer_size answer) message
 unfolding too_small
-hear_message {answer = answer} {message = message} a h k = hear_small (simp (le-ltb (length answer) hub_answer_size a, lt-ltb (length message) message_size h)) k
+hear_message {answer = answer} {message = message} a same h k =
+    rw (same, take-append-drop hub_answer_size answer) (hear_small (simp (le-ltb (length answer) hub_answer_size a, lt-ltb (length message) message_size h)) k)
 
 cleared_state : (e : Event) (hub : Hub) (line gather : List ℕ) (s : HubState) → state_of hub line gather ≡ s → state_of (cleared_control e hub) line gather ≡ cleared e s
 unfolding cleared state_of line_in line_of begun_of half_of joiner_of sound_of gathered_of kept_in last_of unmarked
@@ -201,17 +202,19 @@ front_over k q room part h l e = part_over 0 k q room part fits (omega arith) e
         let rest = length-drop k room in
         omega arith
 
-pub hear_taken : {hub : Hub} {line gather answer message room line' gather' answer' room' : List ℕ} {e : Event} {s : Stepped} {count : ℕ} {next : Hub} →
+pub hear_taken : {hub : Hub} {line gather answer message front room line' gather' front' room' : List ℕ} {e : Event} {s : Stepped} {count : ℕ} {next : Hub} →
     hub_answer_size ≤ length answer →
+    front ≡ take hub_answer_size answer →
+    length (front' ++ drop hub_answer_size answer) ≡ length answer →
     message_size ≤ length message →
     room ≡ take message_size message →
     length (room' ++ drop message_size message) ≡ length message →
     Steps hub line gather room e s line' gather' room' →
-    Writes (name_bytes s.told) answer count answer' →
+    Writes (name_bytes s.told) front count front' →
     Cleared s.hub e next →
-    Hears hub line gather answer message e (record { hub = next; told = s.told; answer = count }) line' gather' answer' (room' ++ drop message_size message)
+    Hears hub line gather answer message e (record { hub = next; told = s.told; answer = count }) line' gather' (front' ++ drop hub_answer_size answer) (room' ++ drop message_size message)
 unfolding too_small hub_step framed
-hear_taken {hub} {line} {gather} {answer} {message} {room} {line'} {gather'} {answer'} {room'} {e} {s} {count} {next} a m front long steps writes clears =
+hear_taken {hub} {line} {gather} {answer} {message} {front} {room} {line'} {gather'} {front'} {room'} {e} {s} {count} {next} a first all m second long steps writes clears =
     let p = le-ltb (length answer) hub_answer_size a in
     let q = le-ltb (length message) message_size m in
     let ts = (framed heard_step (state_of hub line gather) e).told in
@@ -221,6 +224,6 @@ hear_taken {hub} {line} {gather} {answer} {message} {room} {line'} {gather'} {an
       next = simp (p, q) (rw clears.is (cleared_state e s.hub line' gather' (framed heard_step (state_of hub line gather) e).next steps.next));
       line_is = simp (p, q) steps.line_is;
       gather_is = simp (p, q) steps.gather_is;
-      answer_is = simp (p, q) (writes.answer_is ∙ ap (λ (b : List ℕ). over b answer) name);
-      message_is = simp (p, q) (front_over message_size (message_of ts) message room' m long (rw front at steps.message_is));
+      answer_is = simp (p, q) (front_over hub_answer_size (name_bytes s.told) answer front' a all (rw first at writes.answer_is) ∙ ap (λ (b : List ℕ). over b answer) name);
+      message_is = simp (p, q) (front_over message_size (message_of ts) message room' m long (rw second at steps.message_is));
     }

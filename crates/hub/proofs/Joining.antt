@@ -9,9 +9,9 @@ use lib.Dec.{eqb, ltb}
 use lib.ListN.{length, get_or, take, drop, length-append, length-take, length-drop}
 use lib.Seq.{length-take-le}
 use borrow.Author.Tests.{eq-eqb, ne_eqb, lt-ltb, le-ltb}
-use Rattle.words.specs.Lists.{pick, over, over_at, Copied}
+use Rattle.words.specs.Lists.{pick, over, over_at}
 use Rattle.words.specs.Machine.{Done}
-use Rattle.words.proofs.Lists.{over_nil, over_take, over_behind, length_over, part_over, copied_over, rest_part}
+use Rattle.words.proofs.Lists.{over_nil, over_take, over_behind, rest_part}
 use Rattle.packet.specs.Opcodes.{reader, decode_data}
 use Rattle.packet.specs.Packet.{data_in, unmarked}
 use Rattle.packet.specs.Promises.{DataPart, Allowed, Resent, IsAnswer}
@@ -24,6 +24,7 @@ use Rattle.hub.specs.declared.Gathering.{Gathering}
 use Rattle.hub.specs.declared.Told.{Told}
 use Rattle.hub.specs.declared.Told.TheVariants as told
 use Rattle.hub.specs.declared.Joined.{Joined}
+use Rattle.framer.proofs.Silence.{put_in}
 use Rattle.hub.proofs.Control.{refusing_hands_out}
 
 -- ---- what the control value and the gather buffer stand for
@@ -86,29 +87,21 @@ bars_joins j {message = message} e b =
 
 -- ---- pieces
 
--- A piece copied into the room behind `at` bytes.
-behind : (at : ℕ) (piece room part : List ℕ) → length room ≡ message_size → at + length piece ≤ message_size → Copied piece (take (message_size - at) (drop at room)) part →
-    take at room ++ (part ++ drop (message_size - at) (drop at room)) ≡ over_at at piece room
-behind at piece room part size h k =
-    let long : length (take (message_size - at) (drop at room)) ≡ message_size - at = simp (length-take, length-drop) (omega arith) in
-    part_over at (message_size - at) piece room part (omega arith) (omega arith) (copied_over (omega arith) k)
-
-pub keeps : {code at : ℕ} {piece gather part : List ℕ} → length gather ≡ message_size → at + length piece ≤ message_size → Copied piece (take (message_size - at) (drop at gather)) part →
+pub keeps : {code at : ℕ} {piece gather part : List ℕ} → part ≡ piece →
     Keeps code at piece gather (record { gathering = record { barred = false; begun = true; code = code; count = at + length piece }; told = told.Added })
-    (take at gather ++ (part ++ drop (message_size - at) (drop at gather)))
-keeps {code} {at} {piece} {gather} {part} long h k = record { is = refl; gather_is = behind at piece gather part long h k }
+    (take at gather ++ (part ++ drop (at + length piece - at) (drop at gather)))
+keeps {code} {at} {piece} {gather} {part} e = record { is = refl; gather_is = put_in at (length piece) piece gather part refl e }
 
-pub hands_out_lem : {code at : ℕ} {piece gather message message₁ part : List ℕ} {g : Gathering} → length gather ≡ message_size → length message ≡ message_size → at + length piece ≤ message_size →
-    Copied (take at gather) message message₁ → Copied piece (take (message_size - at) (drop at message₁)) part → Closed false g →
+pub hands_out_lem : {code at : ℕ} {piece gather message front part : List ℕ} {g : Gathering} → at ≤ length gather → front ≡ take at gather → part ≡ piece → Closed false g →
     HandsOut code at piece gather message (record { gathering = g; told = told.Message code (at + length piece) })
-    (take at message₁ ++ (part ++ drop (message_size - at) (drop at message₁)))
-hands_out_lem {code} {at} {piece} {gather} {message} {message₁} {part} h l few first second k =
-    let front : length (take at gather) ≡ at = length-take-le at gather (omega arith) in
-    let once : message₁ ≡ over (take at gather) message = copied_over (omega arith) first in
-    let long : length message₁ ≡ length message = ap length once ∙ length_over (take at gather) message (omega arith) in
+    (take at (front ++ drop at message) ++ (part ++ drop (at + length piece - at) (drop at (front ++ drop at message))))
+unfolding over
+hands_out_lem {code} {at} {piece} {gather} {message} {front} {part} h first second k =
+    let long : length (take at gather) ≡ at = length-take-le at gather h in
+    let once : front ++ drop at message ≡ over (take at gather) message = rw first (ap (λ (j : ℕ). take at gather ++ drop j message) (sym long)) in
     record {
       is = rw k.is refl;
-      message_is = behind at piece message₁ part (omega arith) (omega arith) second ∙ rw once (over_behind at (take at gather) piece message front);
+      message_is = put_in at (length piece) piece (front ++ drop at message) part refl second ∙ rw once (over_behind at (take at gather) piece message long);
     }
 
 -- ---- the joining itself

@@ -20,7 +20,7 @@ pub const HUB_ANSWER_SIZE: usize = packet::ANSWER_SIZE;
 pub const BLOCK_SIZE: usize = 4096;
 
 // What is gathered of a message: whether one is begun, its code type, and how many bytes wait in the gather buffer.
-// stays flags and numbers: an exported control value keeps each of its bytes, also ones that no run leaves.
+// stays: flags and numbers, since an exported control value keeps each of its bytes, also ones that no run leaves.
 #[derive(Clone, Copy)]
 pub struct Gathering {
     pub barred: bool,
@@ -37,7 +37,7 @@ pub struct Hub {
 }
 
 // What an event brought.
-// stays an enum: of its five cases three are answered by ACK, so a Result would say no more of them.
+// stays: an enum of five cases, of which a Result would tell only the refusal from the rest.
 #[derive(Clone, Copy)]
 pub enum Told {
     Nothing,
@@ -64,6 +64,14 @@ pub struct Taken {
 struct Held {
     gathering: Gathering,
     ghost sound: { Sound gathering },
+}
+
+// A packet that came, and the last accepted one.
+#[derive(Clone, Copy)]
+struct Packets<'a> {
+    body: &'a [u8],
+    last: &'a [u8],
+    ghost headed: { head_size ≤ length body.now },
 }
 
 #[derive(Clone, Copy)]
@@ -111,9 +119,9 @@ pub fn hear(
 ) -> Taken
     ensures { Hears hub line.old gather.old answer.old message.old event result line.new gather.new answer.new message.new }
 {
-    if answer.len() < HUB_ANSWER_SIZE {
+    let Some(answer) = answer.first_chunk_mut::<HUB_ANSWER_SIZE>() else {
         return no_room(hub);
-    }
+    };
     let Some(message) = message.first_chunk_mut::<MESSAGE_SIZE>() else {
         return no_room(hub);
     };
@@ -149,8 +157,7 @@ fn cleared(hub: Hub, event: Event) -> Hub
 
 // ACK or NAK for what is told, and how many bytes it has.
 #[tactic(auto, unfolding(words::specs::Lists::over))]
-fn reply(told: Told, answer: &mut [u8]) -> usize
-    requires { hub_answer_size ≤ length answer.old }
+fn reply(told: Told, answer: &mut [u8; HUB_ANSWER_SIZE]) -> usize
     ensures { Writes (name_bytes told) answer.old result answer.new }
 {
     match told {
@@ -160,15 +167,13 @@ fn reply(told: Told, answer: &mut [u8]) -> usize
     }
 }
 
-fn acknowledge(answer: &mut [u8]) -> usize
-    requires { hub_answer_size ≤ length answer.old }
+fn acknowledge(answer: &mut [u8; HUB_ANSWER_SIZE]) -> usize
     ensures { Writes (seal (reply_body host Reply.Ack)) answer.old result answer.new }
 {
     packet::size_of(packet::answer(answer, HOST, Reply::Ack))
 }
 
-fn refuse(refusal: Refusal, answer: &mut [u8]) -> usize
-    requires { hub_answer_size ≤ length answer.old }
+fn refuse(refusal: Refusal, answer: &mut [u8; HUB_ANSWER_SIZE]) -> usize
     ensures { Writes (nak_bytes host refusal) answer.old result answer.new }
 {
     packet::size_of(packet::nak(answer, HOST, refusal))
@@ -228,9 +233,11 @@ fn received(
     requires { (head_size ≤ n) × (n ≤ body_size) }
     ensures { Receives halves held.gathering n line.now gather.old message.old result gather.new message.new }
 {
-    let body = framer::received(halves, line, n);
-    let last = framer::kept(halves, line);
-    let joined = judge(held, body, last, gather, message);
+    let packets = Packets {
+        body: framer::received(halves, line, n),
+        last: framer::kept(halves, line),
+    };
+    let joined = judge(held, packets, gather, message);
     settle(halves, n, joined)
 }
 
@@ -279,17 +286,16 @@ fn within(count: usize) -> usize
 }
 
 // CMD_ACK and CMD_NAK do nothing; else 4 to 7 in rising order, then the joining.
-// stays five parameters here and below: in a struct lent by `&mut` each promise would name them by two steps, `rooms.old.gather.now`.
+// stays: gather and message are two parameters here and below. In a struct lent by `&mut` each promise would name them by two steps, `rooms.old.gather.now`.
 fn judge(
     held: Held,
-    body: &[u8],
-    last: &[u8],
+    packets: Packets,
     gather: &mut [u8; MESSAGE_SIZE],
     message: &mut [u8; MESSAGE_SIZE],
 ) -> Joined
-    requires { head_size ≤ length body.now }
-    ensures { Joins (packet_step (joiner_of held.gathering last.now gather.old) body.now) gather.old message.old result gather.new message.new }
+    ensures { Joins (packet_step (joiner_of held.gathering packets.entry.last.now gather.old) packets.entry.body.now) gather.old message.old result gather.new message.new }
 {
+    let body = packets.body;
     let opcode = body[1];
     let status = body[3];
     if packet::is_answer(opcode) {
@@ -304,7 +310,7 @@ fn judge(
     if opcode != DECODE_DATA {
         return unchanged(held.gathering, Told::Refused(Refusal::Opcode));
     }
-    decode(held, body, last, gather, message)
+    decode(held, packets, gather, message)
 }
 
 fn unchanged(gathering: Gathering, told: Told) -> Joined
@@ -316,40 +322,37 @@ fn unchanged(gathering: Gathering, told: Told) -> Joined
 // The data, from the fifth byte on, is a code type and a piece.
 fn decode(
     held: Held,
-    body: &[u8],
-    last: &[u8],
+    packets: Packets,
     gather: &mut [u8; MESSAGE_SIZE],
     message: &mut [u8; MESSAGE_SIZE],
 ) -> Joined
-    requires { head_size ≤ length body.now }
-    ensures { Joins (decode_step (joiner_of held.gathering last.now gather.old) body.now) gather.old message.old result gather.new message.new }
+    ensures { Joins (decode_step (joiner_of held.gathering packets.entry.last.now gather.old) packets.entry.body.now) gather.old message.old result gather.new message.new }
 {
-    let data = packet::data_part(body);
+    let data = packet::data_part(packets.body);
     if data.len() == 0 {
         return unchanged(held.gathering, Told::Refused(Refusal::Data));
     }
-    join(held, body, data, last, gather, message)
+    join(held, packets, data, gather, message)
 }
 
 // In this order: bar, repeat, type, total.
 fn join(
     held: Held,
-    body: &[u8],
+    packets: Packets,
     data: &[u8],
-    last: &[u8],
     gather: &mut [u8; MESSAGE_SIZE],
     message: &mut [u8; MESSAGE_SIZE],
 ) -> Joined
-    requires { (head_size ≤ length body.now) × («data».now ≡ data_in body.now) × (1 ≤ length «data».now) }
-    ensures { Joins (join_step (joiner_of held.gathering last.now gather.old) body.now) gather.old message.old result gather.new message.new }
+    requires { («data».now ≡ data_in packets.body.now) × (1 ≤ length «data».now) }
+    ensures { Joins (join_step (joiner_of held.gathering packets.entry.last.now gather.old) packets.entry.body.now) gather.old message.old result gather.new message.new }
 {
     if held.gathering.barred {
         return bar();
     }
-    if packet::resent_equal(last, body) {
+    if packet::resent_equal(packets.last, packets.body) {
         return unchanged(held.gathering, Told::Repeated);
     }
-    add(held, body, data, gather, message)
+    add(held, packets, data, gather, message)
 }
 
 // Refusal 10 drops what was gathered and bars the hub.
@@ -364,13 +367,13 @@ fn bar() -> Joined
 
 fn add(
     held: Held,
-    body: &[u8],
+    packets: Packets,
     data: &[u8],
     gather: &mut [u8; MESSAGE_SIZE],
     message: &mut [u8; MESSAGE_SIZE],
 ) -> Joined
-    requires { (head_size ≤ length body.now) × («data».now ≡ data_in body.now) × (1 ≤ length «data».now) }
-    ensures { Adds held.gathering body.now gather.old message.old result gather.new message.new }
+    requires { («data».now ≡ data_in packets.body.now) × (1 ≤ length «data».now) }
+    ensures { Adds held.gathering packets.entry.body.now gather.old message.old result gather.new message.new }
 {
     let code = data[0];
     let at = held.gathering.count;
@@ -380,7 +383,7 @@ fn add(
     if MESSAGE_SIZE - at < data.len() - 1 {
         return bar();
     }
-    if body[3] / 2 % 2 == 0 {
+    if packets.body[3] / 2 % 2 == 0 {
         return hand_out(code, at, &data[1..], gather, message);
     }
     keep(code, at, &data[1..], gather)
@@ -398,7 +401,7 @@ fn keep(code: u8, at: usize, piece: &[u8], gather: &mut [u8; MESSAGE_SIZE]) -> J
     requires { at + length piece.now ≤ message_size }
     ensures { Keeps code at piece.now gather.old result gather.new }
 {
-    words::copy(piece, &mut gather[at..]);
+    gather[at..at + piece.len()].copy_from_slice(piece);
     Joined {
         gathering: Gathering {
             barred: false,
@@ -421,8 +424,8 @@ fn hand_out(
     requires { at + length piece.now ≤ message_size }
     ensures { HandsOut code at piece.now gather.now message.old result message.new }
 {
-    words::copy(&gather[..at], message);
-    words::copy(piece, &mut message[at..]);
+    message[..at].copy_from_slice(&gather[..at]);
+    message[at..at + piece.len()].copy_from_slice(piece);
     Joined {
         gathering: closed(false),
         told: Told::Message {

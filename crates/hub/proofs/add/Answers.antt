@@ -4,13 +4,13 @@ use Rattle.hub.proofs.Joining.{adds_other, adds_much, adds_last, adds_more}
 use Rattle.hub.proofs.add.Goals as goal
 
 pub returns-then-other_type : goal.returns-then-other_type
-returns-then-other_type c = adds_other c.args.held.sound c.told-gather c.requires.1 c.other_type.ensures c.if-other_type.true c.bar.ensures
+returns-then-other_type c = adds_other c.args.held.sound c.told-gather c.requires.0 c.other_type.ensures c.if-other_type.true c.bar.ensures
 
 pub returns-then-at-data : goal.returns-then-at-data
-returns-then-at-data c = adds_much c.args.held.sound c.told-gather c.requires.1 c.other_type.ensures c.if-other_type.false (omega arith) c.bar-then-at-data.ensures
+returns-then-at-data c = adds_much c.args.held.sound c.told-gather c.requires.0 c.other_type.ensures c.if-other_type.false (omega arith) c.bar-then-at-data.ensures
 
-pub returns-then-body-eq0 : goal.returns-then-body-eq0
-returns-then-body-eq0 c = adds_last c.args.held.sound c.told-gather c.requires.1 c.other_type.ensures c.if-other_type.false (omega arith) c.if-body-eq0.true c.hand_out.ensures
+pub returns-then-packets-eq0 : goal.returns-then-packets-eq0
+returns-then-packets-eq0 c = adds_last c.args.held.sound c.told-gather c.requires.0 c.other_type.ensures c.if-other_type.false (omega arith) c.if-packets-eq0.true c.hand_out.ensures
 
 pub returns : goal.returns
-returns c = adds_more c.args.held.sound c.told-gather c.requires.1 c.other_type.ensures c.if-other_type.false (omega arith) c.if-body-eq0.false c.keep.ensures
+returns c = adds_more c.args.held.sound c.told-gather c.requires.0 c.other_type.ensures c.if-other_type.false (omega arith) c.if-packets-eq0.false c.keep.ensures

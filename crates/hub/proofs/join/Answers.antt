@@ -3,7 +3,7 @@ use Rattle.hub.proofs.Joining.{joins_barred, joins_repeated, joins_added}
 use Rattle.hub.proofs.join.Goals as goal
 
 pub returns-then-held : goal.returns-then-held
-returns-then-held c = joins_barred c.args.last.now c.args.body.now c.args.held.sound c.if-held.true c.bar.ensures
+returns-then-held c = joins_barred c.args.packets.last.now c.args.packets.body.now c.args.held.sound c.if-held.true c.bar.ensures
 
 pub returns-then-resent_equal : goal.returns-then-resent_equal
 returns-then-resent_equal c = joins_repeated c.args.held.sound c.if-held.false c.resent_equal.ensures c.told-gather c.if-resent_equal.true c.unchanged.ensures

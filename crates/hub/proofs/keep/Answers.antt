@@ -3,4 +3,4 @@ use Rattle.hub.proofs.Joining.{keeps}
 use Rattle.hub.proofs.keep.Goals as goal
 
 pub returns : goal.returns
-returns c = keeps c.told-gather c.requires c.copy.ensures
+returns c = keeps c.copy_from_slice.ensures.after

@@ -3,8 +3,8 @@ use native.Mathlib.Omega.{arith}
 use Rattle.hub.proofs.Hearing.{received_packet}
 use Rattle.hub.proofs.received.Goals as goal
 
-pub judge-joined-requires : goal.judge-joined-requires
-judge-joined-requires c = let long = c.received-body.ensures.long (omega arith) in omega arith
+pub invariant_of-packets : goal.invariant_of-packets
+invariant_of-packets c = let long = c.received.ensures.long (omega arith) in record { headed = omega arith }
 
 pub returns : goal.returns
-returns c = received_packet c.received-body.ensures c.kept-last.ensures c.judge-joined.ensures c.settle.ensures
+returns c = received_packet c.received.ensures c.kept.ensures c.judge-joined.ensures c.settle.ensures
