@@ -31,10 +31,10 @@ use Rattle.listing.specs.Promises.{Takes}
 use Rattle.std.proofs.Common.{None, ◌⊎◌, inl, inr}
 use Rattle.listing.specs.declared.Token.TheVariants.{Nothing, Byte, CharacterGap, MessageGap, Sign, Lone}
 use Rattle.listing.specs.declared.Taken.{Taken}
-use Rattle.listing.proofs.Rooms.{most_over, writes_nothing}
+use Rattle.listing.proofs.Rooms.{most_over, writes_none}
 use Rattle.hub_lister.specs.declared.Lister.{Lister}
 use Rattle.hub_lister.specs.declared.Buffers.{Buffers}
-use Rattle.hub_lister.specs.declared.Page.{Page}
+use Rattle.listing.specs.declared.Page.{Page}
 use Rattle.hub_lister.specs.Listing.{output_line, happens, acts}
 use Rattle.hub_lister.specs.Promises.{SameBuffers, count_of, told_line, Stops, Happens, Characters, PutsLines}
 
@@ -120,29 +120,29 @@ module _ {hub : Hub} {line gather answer part : List ℕ} {e : Event} {a : HubTa
       let answer_is : take a.answer answer' ≡ answer_of os = rw heard_answer (take_over (answer_of os) answer a.answer heard_count) in
       let lines : told_line a.told m ++ answer_line (take a.answer answer') ≡ flat_map output_line os =
       rw (heard_told, answer_is) (lines_told part rest m (event_happens state e).outcome (d ∙ rw heard_message refl)) in
-      record { steps = rw (l, g, l', g') (record { next = rw heard_next refl; writes = rw lines at k.writes }); buffers = s; page = k.page }
+      record { steps = rw (l, g, l', g') (record { next = rw heard_next refl; writes = rw lines at k.writes }); same = s }
 
 -- ---- a character, by its token
 
 module _ {l : Lister} {c : ℕ} {t : Taken} (k : Takes l.waiting c t) {b : Buffers} {p : Page} where
   pub skipped : p.at ≤ length p.room.now → t.token ≡ Nothing → Characters l b c p (record { hub = l.hub; waiting = t.waiting; ended = false }) b p
   unfolding acts skips
-  skipped h e = record { steps = rw (← k.is, e) (record { next = refl; writes = writes_nothing h }); buffers = record { line = refl; gather = refl }; page = record { room = refl } }
+  skipped h e = record { steps = rw (← k.is, e) (record { next = refl; writes = writes_none h }); same = record { line = refl; gather = refl } }
 
   module _ {r : Lister} {b' : Buffers} {p' : Page} where
     pub byte_heard : {x : ℕ} → t.token ≡ Byte x → Happens l.hub b (event.Byte x) p r b' p' → Characters l b c p r b' p'
     unfolding acts
-    byte_heard e s = record { steps = rw (← k.is, e) s.steps; buffers = s.buffers; page = s.page }
+    byte_heard e s = record { steps = rw (← k.is, e) s.steps; same = s.same }
 
     pub gap_heard : t.token ≡ CharacterGap → Happens l.hub b event.CharacterGap p r b' p' → Characters l b c p r b' p'
     unfolding acts
-    gap_heard e s = record { steps = rw (← k.is, e) s.steps; buffers = s.buffers; page = s.page }
+    gap_heard e s = record { steps = rw (← k.is, e) s.steps; same = s.same }
 
     pub message_gap_heard : t.token ≡ MessageGap → Happens l.hub b event.MessageGap p r b' p' → Characters l b c p r b' p'
     unfolding acts
-    message_gap_heard e s = record { steps = rw (← k.is, e) s.steps; buffers = s.buffers; page = s.page }
+    message_gap_heard e s = record { steps = rw (← k.is, e) s.steps; same = s.same }
 
   pub stop_read : {r : Lister} {p' : Page} → ((x : ℕ) × (t.token ≡ Sign x)) ⊎ (t.token ≡ Lone) → Stops l.hub p r p' → Characters l b c p r b p'
   unfolding acts
-  stop_read (inl (x, e)) s = record { steps = rw (← k.is, e) (s.steps b.line.now b.gather.now); buffers = record { line = refl; gather = refl }; page = s.page }
-  stop_read (inr e) s = record { steps = rw (← k.is, e) (s.steps b.line.now b.gather.now); buffers = record { line = refl; gather = refl }; page = s.page }
+  stop_read (inl (x, e)) s = record { steps = rw (← k.is, e) (s.steps b.line.now b.gather.now); same = record { line = refl; gather = refl } }
+  stop_read (inr e) s = record { steps = rw (← k.is, e) (s.steps b.line.now b.gather.now); same = record { line = refl; gather = refl } }

@@ -12,12 +12,12 @@ use Rattle.listing.specs.Listing.{Reading, stops}
 use Rattle.listing.specs.Session as session
 use Rattle.listing.specs.Tokens.{take_of}
 use Rattle.listing.specs.Promises as listing
-use Rattle.listing.specs.Promises.{Writes, Steps}
+use Rattle.listing.specs.Promises.{WritesOn, Steps}
 use Rattle.hub_lister.specs.Listing.{happens, acts}
 use Rattle.hub_lister.specs.declared.Lister.{Lister}
 use Rattle.hub_lister.specs.declared.Listed.{Listed}
 use Rattle.hub_lister.specs.declared.Buffers.{Buffers}
-use Rattle.hub_lister.specs.declared.Page.{Page}
+use Rattle.listing.specs.declared.Page.{Page}
 
 -- What a control value and the hub's two buffers stand for.
 abbrev pub reading_of : Lister → List ℕ → List ℕ → Reading HubState
@@ -58,28 +58,22 @@ pub record Left (l : Lister) : Type 0 where
 
 -- ---- the functions inside
 
--- Behind the references of a struct lie the same rooms as before.
+-- Behind the references of the struct lie the same rooms as before.
 pub record SameBuffers (b b' : Buffers) : Type 0 where
   pub line : b'.line.ghost_name ≡ b.line.ghost_name
   pub gather : b'.gather.ghost_name ≡ b.gather.ghost_name
 
-pub record SamePage (p p' : Page) : Type 0 where
-  pub room : p'.room.ghost_name ≡ p.room.ghost_name
-
 pub record Characters (l : Lister) (b : Buffers) (c : ℕ) (p : Page) (r : Lister) (b' : Buffers) (p' : Page) : Type 0 where
-  pub steps : Steps (acts (state_of l.hub b.line.now b.gather.now) (take_of l.waiting c).waiting (take_of l.waiting c).token) p.room.now p.at (reading_of r b'.line.now b'.gather.now) p'.at p'.room.now
-  pub buffers : SameBuffers b b'
-  pub page : SamePage p p'
+  pub steps : Steps (acts (state_of l.hub b.line.now b.gather.now) (take_of l.waiting c).waiting (take_of l.waiting c).token) p (reading_of r b'.line.now b'.gather.now) p'
+  pub same : SameBuffers b b'
 
 pub record Happens (hub : Hub) (b : Buffers) (e : Event) (p : Page) (r : Lister) (b' : Buffers) (p' : Page) : Type 0 where
-  pub steps : Steps (happens (state_of hub b.line.now b.gather.now) e) p.room.now p.at (reading_of r b'.line.now b'.gather.now) p'.at p'.room.now
-  pub buffers : SameBuffers b b'
-  pub page : SamePage p p'
+  pub steps : Steps (happens (state_of hub b.line.now b.gather.now) e) p (reading_of r b'.line.now b'.gather.now) p'
+  pub same : SameBuffers b b'
 
 -- Nothing of the hub's buffers is looked at.
 pub record Stops (hub : Hub) (p : Page) (r : Lister) (p' : Page) : Type 0 where
-  pub steps : (line gather : List ℕ) → Steps (stops (state_of hub line gather)) p.room.now p.at (reading_of r line gather) p'.at p'.room.now
-  pub page : SamePage p p'
+  pub steps : (line gather : List ℕ) → Steps (stops (state_of hub line gather)) p (reading_of r line gather) p'
 
 -- How many bytes a message that is told has.
 abbrev pub count_of : Told → ℕ
@@ -98,9 +92,7 @@ told_line (told.Message code count) message = line_of 77 (code ∷ take count (d
 told_line (told.Refused r) message = []
 
 pub record MessageLine (t : Told) (message : List ℕ) (p p' : Page) : Type 0 where
-  pub writes : Writes (told_line t message) p.at p.room.now p'.at p'.room.now
-  pub page : SamePage p p'
+  pub writes : WritesOn (told_line t message) p p'
 
 pub record PutsLines (t : Told) (count : ℕ) (answer message : List ℕ) (p p' : Page) : Type 0 where
-  pub writes : Writes (told_line t message ++ answer_line (take count answer)) p.at p.room.now p'.at p'.room.now
-  pub page : SamePage p p'
+  pub writes : WritesOn (told_line t message ++ answer_line (take count answer)) p p'

@@ -12,7 +12,7 @@ ghost use Rattle.hub_lister.specs.Promises.{message_line_size, lines_size, Start
 use framer::Event;
 pub use framer::LINE_SIZE;
 use hub::{HUB_ANSWER_SIZE, Hub, Told};
-use listing::Token;
+use listing::{Page, Token};
 pub use packet::MESSAGE_SIZE;
 pub use stream::{run, run_on_streams};
 
@@ -44,13 +44,6 @@ struct Buffers<'a> {
     gather: &'a mut [u8; MESSAGE_SIZE],
     answer: [u8; HUB_ANSWER_SIZE],
     message: [u8; CODED_SIZE],
-}
-
-// The room for lines, and the place behind those that stand in it.
-#[derive(Drop)]
-struct Page<'a> {
-    room: &'a mut [u8],
-    at: usize,
 }
 
 pub fn start() -> Lister
@@ -132,7 +125,7 @@ fn stop(hub: Hub, page: &mut Page) -> Lister
     requires { page.old.at + lines_size ≤ length page.old.room.now }
     ensures { Stops hub page.old result page.new }
 {
-    page.at = listing::put_error(page.room, page.at);
+    listing::put_error(page);
     Lister {
         hub,
         waiting: None,
@@ -179,7 +172,7 @@ fn put_lines(
     ensures { PutsLines told count answer.now message.old page.old page.new }
 {
     message_line(told, message, page);
-    page.at = listing::put_answer(&answer[..count], page.room, page.at);
+    listing::put_answer(&answer[..count], page);
 }
 
 // The code type goes in front of the message, so that both are one run of bytes.
@@ -189,6 +182,6 @@ fn message_line(told: Told, message: &mut [u8; CODED_SIZE], page: &mut Page)
 {
     if let Told::Message { code, count } = told {
         message[0] = code;
-        page.at = listing::put_line(b'M', &message[..=count], page.room, page.at);
+        listing::put_line(b'M', &message[..=count], page);
     }
 }

@@ -1,17 +1,18 @@
 -- One law for each answer of the functions that spell bytes and put lines, and what the loop over the bytes keeps. Assumes nothing.
 use Prim.Native.Nat.{ℕ, ◌+◌, ◌*◌, ◌-◌, ◌<◌, ◌≤◌}
-use mathlib.Core.Path.{◌≡◌, refl, sym, ◌∙◌}
+use mathlib.Core.Path.{◌≡◌, refl, sym}
 use mathlib.Core.List.{List, [], ◌∷◌, ◌++◌, append_assoc}
 use native.Mathlib.Nat.{le_antisymm}
 use native.Mathlib.Numerals.{add-one}
 use native.Mathlib.Omega.{arith}
-use lib.ListN.{length, get_or, take, drop, set, length-append, length-set}
-use lib.Seq.{take-length, take-suc}
+use lib.ListN.{length, get_or, take, drop, length-append}
+use lib.Seq.{take-length, take-suc, length-take-le}
 use borrow.Author.Tests.{lt-ltb, le-ltb}
 use Rattle.words.specs.Lists.{over, over_at}
 use Rattle.listing.specs.Lines.{capital_of, hex_byte, hex_bytes, line_of}
-use Rattle.listing.specs.Promises.{Capital, Spelt, Puts, Writes}
-use Rattle.listing.proofs.Rooms.{writes_one, writes_then, writes_length, writes_nothing, puts_none}
+use Rattle.listing.specs.declared.Page.{Page}
+use Rattle.listing.specs.Promises.{Capital, Spelt, Writes, PutsLine, WritesOn}
+use Rattle.listing.proofs.Rooms.{writes_on_then, writes_length, writes_none, puts_none, puts_whole}
 
 -- ---- digits
 
@@ -39,43 +40,44 @@ unfolding hex_bytes
 hex_bytes_append [] t = refl
 hex_bytes_append (b ∷ bs) t = rw (hex_bytes_append bs t) (sym (append_assoc (hex_byte b) (hex_bytes bs) (hex_bytes t)))
 
-pub byte_written : {b at : ℕ} {digits room part : List ℕ} → Spelt b digits → at + 3 ≤ length room → part ≡ 32 ∷ get_or digits 0 0 ∷ get_or digits 1 0 ∷ [] →
-    Writes (hex_byte b) at room (at + 3) (take at room ++ (part ++ drop (at + 3 - at) (drop at room)))
-unfolding hex_byte over_at over
-byte_written {at = at} s h e =
-    let three : at + 3 - at ≡ 3 = omega arith in
-    record { is = refl; room_is = rw (three, e, s.is) refl; inside = h }
+-- A run of bytes that lies in the room.
+pub run_written : {s part room : List ℕ} {at k : ℕ} → k ≡ length s → part ≡ s → at + length s ≤ length room → Writes s at room (at + length s) (take at room ++ (part ++ drop k (drop at room)))
+unfolding over_at over
+run_written e f h = record { is = refl; room_is = rw (e, f) refl; inside = h }
 
 -- The first i bytes are spelt.
-pub record Spelling (bytes : List ℕ) (at : ℕ) (room₀ room : List ℕ) (i place : ℕ) : Type 0 where
-  pub passed : i ≤ length bytes
-  pub enough : at + 3 * length bytes ≤ length room₀
-  pub writes : Writes (hex_bytes (take i bytes)) at room₀ place room
-  pub where_at : place ≡ at + 3 * i
-  pub long : length room ≡ length room₀
+pub record Spelling (bytes : List ℕ) (p₀ p : Page) (i : ℕ) : Type 0 where
+  pub writes : WritesOn (hex_bytes (take i bytes)) p₀ p
 
-pub spelling_none : {bytes room : List ℕ} {at : ℕ} → at + 3 * length bytes ≤ length room → Spelling bytes at room room 0 at
+spelt_place : {bytes : List ℕ} {p₀ p : Page} {i : ℕ} → Spelling bytes p₀ p i → i ≤ length bytes → p.at ≡ p₀.at + 3 * i
+spelt_place {bytes} {i = i} k h =
+    let n = length_hex_bytes (take i bytes) in
+    let l = length-take-le i bytes h in
+    let e = k.writes.writes.is in
+    omega arith
+
+pub spelling_none : {bytes : List ℕ} {p : Page} → p.at ≤ length p.room.now → Spelling bytes p p 0
 unfolding hex_bytes
-spelling_none {bytes} {room} {at} h =
-    record { passed = omega arith; enough = h; writes = writes_nothing (omega arith); where_at = omega arith; long = refl }
+spelling_none h = record { writes = writes_none h }
 
-pub spelling_more : {bytes room₀ room room' : List ℕ} {at i place r : ℕ} → Spelling bytes at room₀ room i place → i < length bytes → Writes (hex_byte (get_or bytes i 0)) place room r room' → Spelling bytes at room₀ room' (i + 1) r
+pub spelling_room : {bytes : List ℕ} {p₀ p : Page} {i : ℕ} → Spelling bytes p₀ p i → i < length bytes → p₀.at + 3 * length bytes ≤ length p₀.room.now → p.at + 3 ≤ length p.room.now
+spelling_room k h n =
+    let e = spelt_place k (omega arith) in
+    let l = writes_length k.writes.writes in
+    omega arith
+
+pub spelling_more : {bytes digits : List ℕ} {p₀ p p' : Page} {i : ℕ} → Spelling bytes p₀ p i → i < length bytes → Spelt (get_or bytes i 0) digits →
+    WritesOn (32 ∷ get_or digits 0 0 ∷ get_or digits 1 0 ∷ []) p p' → Spelling bytes p₀ p' (i + 1)
 unfolding hex_bytes hex_byte
-spelling_more {bytes} {room₀} {room} {room'} {at} {i} {place} {r} k h w =
-    let e = k.where_at in
+spelling_more {bytes} {digits} {i = i} k h d w =
+    let byte : 32 ∷ get_or digits 0 0 ∷ get_or digits 1 0 ∷ [] ≡ hex_byte (get_or bytes i 0) = rw d.is refl in
     let more : hex_bytes (take (i + 1) bytes) ≡ hex_bytes (take i bytes) ++ hex_byte (get_or bytes i 0) =
     rw (add-one i, take-suc bytes i 0 h) (hex_bytes_append (take i bytes) (get_or bytes i 0 ∷ [])) in
-    record {
-      passed = omega arith;
-      enough = k.enough;
-      writes = rw more (writes_then k.writes w);
-      where_at = let n = w.is in omega arith;
-      long = writes_length w ∙ k.long;
-    }
+    record { writes = rw more (writes_on_then k.writes (rw byte at w)) }
 
-pub spelling_all : {bytes room₀ room : List ℕ} {at i place : ℕ} → Spelling bytes at room₀ room i place → length bytes ≤ i → Writes (hex_bytes bytes) at room₀ place room
-spelling_all {bytes} {i = i} k h =
-    let e : i ≡ length bytes = le_antisymm k.passed h in
+pub spelling_all : {bytes : List ℕ} {p₀ p : Page} {i : ℕ} → Spelling bytes p₀ p i → i ≤ length bytes → length bytes ≤ i → WritesOn (hex_bytes bytes) p₀ p
+spelling_all {bytes} {i = i} k l h =
+    let e : i ≡ length bytes = le_antisymm l h in
     let whole : take i bytes ≡ bytes = rw e (take-length bytes) in
     rw whole at k.writes
 
@@ -86,15 +88,12 @@ unfolding line_of
 length_line letter s = let h = length_hex_bytes s in simp length-append (omega arith)
 
 -- The letter, the bytes and the line feed, one behind the other.
-pub line_written : (letter : ℕ) (bytes room : List ℕ) {at m e r : ℕ} {room₁ : List ℕ} → m ≡ at + 1 → at + 3 * length bytes + 2 ≤ length room →
-    Writes (hex_bytes bytes) m (set room at letter) e room₁ → r ≡ e + 1 → Writes (line_of letter bytes) at room r (set room₁ e 10)
+pub line_written : {letter : ℕ} (bytes : List ℕ) {p p₁ p₂ p₃ : Page} → WritesOn (letter ∷ []) p p₁ → WritesOn (hex_bytes bytes) p₁ p₂ → WritesOn (10 ∷ []) p₂ p₃ → WritesOn (line_of letter bytes) p p₃
 unfolding line_of
-line_written letter bytes room {at = at} s h w n =
-    let count = length_hex_bytes bytes in
-    let long = writes_length w in
-    let set_long = length-set room at letter in
-    let end = w.is in
-    writes_then (writes_then (writes_one (omega arith) s) w) (writes_one (omega arith) n)
+line_written bytes a b c = writes_on_then (writes_on_then a b) c
 
-pub no_line : (letter : ℕ) (bytes : List ℕ) {room : List ℕ} {at : ℕ} → length room < at + 3 * length bytes + 2 → Puts (line_of letter bytes) at room at room
-no_line letter bytes h = let n = length_line letter bytes in puts_none (omega arith)
+pub no_line : (letter : ℕ) (bytes : List ℕ) {p : Page} → length p.room.now < p.at + 3 * length bytes + 2 → PutsLine (line_of letter bytes) p p
+no_line letter bytes h = let n = length_line letter bytes in record { puts = puts_none (omega arith); page = record { room = refl } }
+
+pub whole_line : {s : List ℕ} {p p' : Page} → WritesOn s p p' → PutsLine s p p'
+whole_line w = record { puts = puts_whole w.writes; page = w.page }

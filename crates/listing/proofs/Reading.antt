@@ -18,8 +18,9 @@ use Rattle.words.proofs.Machine.{through_append, through_one}
 use Rattle.listing.specs.Tokens.{take_of}
 use Rattle.listing.specs.Listing.{Reading, Acts, list_step}
 use Rattle.listing.specs.Session.{goes_on, taken_of, Hears}
-use Rattle.listing.specs.Promises.{Writes, GoesOn, Steps}
-use Rattle.listing.proofs.Rooms.{writes_nothing, writes_then, writes_length}
+use Rattle.listing.specs.declared.Page.{Page}
+use Rattle.listing.specs.Promises.{WritesOn, GoesOn, Steps}
+use Rattle.listing.proofs.Rooms.{writes_none, writes_on_then, writes_length}
 
 -- ---- a run, one character longer
 
@@ -53,81 +54,84 @@ module _ {S : Type 0} (acts : Acts S) (most : ℕ) (s : Reading S) where
 
 -- ---- the loop
 
-pub record Listing {S : Type 0} (acts : Acts S) (most : ℕ) (s₀ : Reading S) (text room₀ : List ℕ) (s : Reading S) (room : List ℕ) (i at : ℕ) : Type 0 where
+pub record Listing {S : Type 0} (acts : Acts S) (most : ℕ) (s₀ : Reading S) (text : List ℕ) (p₀ : Page) (s : Reading S) (p : Page) (i : ℕ) : Type 0 where
   pub passed : i ≤ length text
   pub reading : s ≡ (through (list_step acts) s₀ (take i text)).next
-  pub writes : Writes (through (list_step acts) s₀ (take i text)).told 0 room₀ at room
-  pub still : taken_of acts most s₀ (length room₀) text ≡ i + taken_of acts most s (length room₀ - at) (drop i text)
-  pub long : length room ≡ length room₀
-  pub inside : at ≤ length room
+  pub writes : WritesOn (through (list_step acts) s₀ (take i text)).told p₀ p
+  pub still : taken_of acts most s₀ (length p₀.room.now) text ≡ i + taken_of acts most s (length p₀.room.now - p.at) (drop i text)
+  pub front : p₀.at ≡ 0
+  pub long : length p.room.now ≡ length p₀.room.now
+  pub inside : p.at ≤ length p.room.now
 
-pub listing_none : {S : Type 0} {acts : Acts S} {most : ℕ} {s : Reading S} {text room : List ℕ} → Listing acts most s text room s room 0 0
+pub listing_none : {S : Type 0} {acts : Acts S} {most : ℕ} {s : Reading S} {text : List ℕ} {p : Page} → p.at ≡ 0 → Listing acts most s text p s p 0
 unfolding through
-listing_none {S} {acts} {most} {s} {text} {room} =
-    let all : length room ≡ length room - 0 = omega arith in
+listing_none {S} {acts} {most} {s} {text} {p} e =
+    let all : length p.room.now ≡ length p.room.now - p.at = omega arith in
     record {
       passed = omega arith;
       reading = refl;
-      writes = writes_nothing (omega arith);
+      writes = writes_none (omega arith);
       still = rw (← all) (omega arith);
+      front = e;
       long = refl;
       inside = omega arith;
     }
 
-module _ {S : Type 0} {acts : Acts S} {most : ℕ} {s₀ : Reading S} {text room₀ : List ℕ} {s : Reading S} {room : List ℕ} {i at : ℕ} (k : Listing acts most s₀ text room₀ s room i at) where
-  pub listing_more : {b : Bool} {s' : Reading S} {place : ℕ} {room' : List ℕ} → i < length text → GoesOn s.ended most (length room - at) b → b ≡ true →
-      Steps (acts s.machine (take_of s.waiting (get_or text i 0)).waiting (take_of s.waiting (get_or text i 0)).token) room at s' place room' →
-      Listing acts most s₀ text room₀ s' room' (i + 1) place
-  listing_more {b} {s'} {place} {room'} h g e q =
+module _ {S : Type 0} {acts : Acts S} {most : ℕ} {s₀ : Reading S} {text : List ℕ} {p₀ : Page} {s : Reading S} {p : Page} {i : ℕ} (k : Listing acts most s₀ text p₀ s p i) where
+  pub listing_more : {b : Bool} {s' : Reading S} {p' : Page} → i < length text → GoesOn s.ended most (length p.room.now - p.at) b → b ≡ true →
+      Steps (acts s.machine (take_of s.waiting (get_or text i 0)).waiting (take_of s.waiting (get_or text i 0)).token) p s' p' →
+      Listing acts most s₀ text p₀ s' p' (i + 1)
+  listing_more {b} {s'} {p'} h g e q =
       let c = get_or text i 0 in
-      let goes : goes_on most s.ended (length room - at) ≡ true = sym g.is ∙ e in
-      let tests = goes_on_right most s.ended (length room - at) goes in
+      let goes : goes_on most s.ended (length p.room.now - p.at) ≡ true = sym g.is ∙ e in
+      let tests = goes_on_right most s.ended (length p.room.now - p.at) goes in
       let d = acting acts most s c tests.0 in
       let next : s' ≡ (list_step acts s c).next = rw d q.next in
-      let writes : Writes (list_step acts s c).told at room place room' = rw d q.writes in
+      let writes : WritesOn (list_step acts s c).told p p' = rw d q.writes in
       let run : through (list_step acts) s₀ (take (i + 1) text) ≡ record { next = (list_step acts s c).next; told = (through (list_step acts) s₀ (take i text)).told ++ (list_step acts s c).told } =
       rw (add-one i, take-suc text i 0 h, k.reading) (run_longer (list_step acts) s₀ (take i text) c) in
-      let where_at = writes.is in
-      let long = writes_length writes in
-      let left : length room₀ - at - length (list_step acts s c).told ≡ length room₀ - place = omega arith in
-      let more : taken_of acts most s (length room₀ - at) (drop i text) ≡ suc (taken_of acts most (list_step acts s c).next (length room₀ - at - length (list_step acts s c).told) (drop (suc i) text)) =
-      rw (drop-cons text i 0 h) (taken_more acts most s (length room₀ - at) c (drop (suc i) text) (rw k.long at goes)) in
-      let rest : taken_of acts most s' (length room₀ - place) (drop (i + 1) text) ≡ taken_of acts most (list_step acts s c).next (length room₀ - at - length (list_step acts s c).told) (drop (suc i) text) =
+      let where_at = writes.writes.is in
+      let long = writes_length writes.writes in
+      let left : length p₀.room.now - p.at - length (list_step acts s c).told ≡ length p₀.room.now - p'.at = omega arith in
+      let more : taken_of acts most s (length p₀.room.now - p.at) (drop i text) ≡ suc (taken_of acts most (list_step acts s c).next (length p₀.room.now - p.at - length (list_step acts s c).told) (drop (suc i) text)) =
+      rw (drop-cons text i 0 h) (taken_more acts most s (length p₀.room.now - p.at) c (drop (suc i) text) (rw k.long at goes)) in
+      let rest : taken_of acts most s' (length p₀.room.now - p'.at) (drop (i + 1) text) ≡ taken_of acts most (list_step acts s c).next (length p₀.room.now - p.at - length (list_step acts s c).told) (drop (suc i) text) =
       rw (next, left, add-one i) refl in
       record {
         passed = omega arith;
         reading = rw run next;
-        writes = rw run (writes_then k.writes writes);
+        writes = rw run (writes_on_then k.writes writes);
         still = omega (arith, k.still, more, rest);
+        front = k.front;
         long = long ∙ k.long;
-        inside = let m = writes.inside in omega arith;
+        inside = let m = writes.writes.inside in omega arith;
       }
 
-  listened : i ≡ taken_of acts most s₀ (length room₀) text → Hears acts most s₀ text room₀ i at s room
+  listened : i ≡ taken_of acts most s₀ (length p₀.room.now) text → Hears acts most s₀ text p₀.room.now i p.at s p.room.now
   unfolding over_at
   listened e =
       record {
         taken_is = e;
         next = k.reading;
-        count_is = let n = k.writes.is in omega arith;
-        room_is = k.writes.room_is;
+        count_is = let n = k.writes.writes.is in omega (arith, k.front);
+        room_is = let r = k.writes.writes.room_is in rw k.front at r;
         within = k.passed;
-        inside = k.writes.inside;
+        inside = k.writes.writes.inside;
       }
 
   -- The text has ended.
-  pub listing_all : length text ≤ i → Hears acts most s₀ text room₀ (length text) at s room
+  pub listing_all : length text ≤ i → Hears acts most s₀ text p₀.room.now (length text) p.at s p.room.now
   unfolding taken_of
   listing_all h =
       let e : i ≡ length text = le_antisymm k.passed h in
       let none : drop i text ≡ [] = rw e (drop-length text) in
-      let n : taken_of acts most s (length room₀ - at) (drop i text) ≡ 0 = rw none refl in
+      let n : taken_of acts most s (length p₀.room.now - p.at) (drop i text) ≡ 0 = rw none refl in
       rw (← e) (listened (omega (arith, k.still, n)))
 
   -- The listing has ended, or the room might not do.
-  pub listing_left : {b : Bool} → i < length text → GoesOn s.ended most (length room - at) b → b ≡ false → Hears acts most s₀ text room₀ i at s room
+  pub listing_left : {b : Bool} → i < length text → GoesOn s.ended most (length p.room.now - p.at) b → b ≡ false → Hears acts most s₀ text p₀.room.now i p.at s p.room.now
   listing_left h g e =
-      let goes : goes_on most s.ended (length room - at) ≡ false = sym g.is ∙ e in
-      let n : taken_of acts most s (length room₀ - at) (drop i text) ≡ 0 =
-      rw (drop-cons text i 0 h) (taken_none acts most s (length room₀ - at) (get_or text i 0) (drop (suc i) text) (rw k.long at goes)) in
+      let goes : goes_on most s.ended (length p.room.now - p.at) ≡ false = sym g.is ∙ e in
+      let n : taken_of acts most s (length p₀.room.now - p.at) (drop i text) ≡ 0 =
+      rw (drop-cons text i 0 h) (taken_none acts most s (length p₀.room.now - p.at) (get_or text i 0) (drop (suc i) text) (rw k.long at goes)) in
       listened (omega (arith, k.still, n))

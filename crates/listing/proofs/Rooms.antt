@@ -2,16 +2,17 @@
 use Prim.Native.Nat.{ℕ, ◌+◌, ◌<◌, ◌≤◌}
 use mathlib.Core.Path.{◌≡◌, refl, sym, ap, ◌∙◌}
 use mathlib.Core.Bool.{Bool, true, false}
-use mathlib.Core.List.{List, [], ◌∷◌, ◌++◌, append_assoc}
+use mathlib.Core.List.{List, [], ◌++◌, append_assoc}
 use native.Mathlib.Omega.{arith}
-use lib.ListN.{length, take, drop, set, length-append, take-append-drop}
+use lib.ListN.{length, take, drop, length-append, take-append-drop}
 use lib.Seq.{length-take-le, take_at, drop_at, drop-drop}
 use lib.Dec.{leb}
 use borrow.Author.Tests.{le-leb, lt-leb, leb-true}
 use Rattle.words.specs.Lists.{over, over_at}
-use Rattle.words.proofs.Lists.{set_over_at, length_over_at}
+use Rattle.words.proofs.Lists.{length_over_at}
 use Rattle.listing.specs.Lines.{fitting}
-use Rattle.listing.specs.Promises.{Puts, Writes}
+use Rattle.listing.specs.declared.Page.{Page}
+use Rattle.listing.specs.Promises.{Puts, Writes, PutsLine, WritesOn}
 
 -- A second run behind the first is one run of both.
 pub over_at_then : (at n : ℕ) (p q room : List ℕ) → n ≡ at + length p → n ≤ length room → over_at n q (over_at at p room) ≡ over_at at (p ++ q) room
@@ -36,10 +37,6 @@ over_at_nil at room = take-append-drop at room
 pub writes_nothing : {at : ℕ} {room : List ℕ} → at ≤ length room → Writes [] at room at room
 writes_nothing {at} {room} h = record { is = omega arith; room_is = sym (over_at_nil at room); inside = h }
 
--- One store.
-pub writes_one : {x at r : ℕ} {room : List ℕ} → at < length room → r ≡ at + 1 → Writes (x ∷ []) at room r (set room at x)
-writes_one {x} {at} {r} {room} h e = record { is = e; room_is = set_over_at room at x h; inside = omega arith }
-
 pub writes_length : {p room room' : List ℕ} {at r : ℕ} → Writes p at room r room' → length room' ≡ length room
 writes_length {p} {room} {room'} {at} {r} w =
     let e = w.is in let i = w.inside in ap length w.room_is ∙ length_over_at at p room (omega arith)
@@ -55,6 +52,12 @@ writes_then {p} {q} {room} {room₁} {room₂} {at} {m} {r} w v =
       room_is = v.room_is ∙ (rw w.room_is (over_at_then at m p q room w.is w.inside));
       inside = omega arith;
     }
+
+pub writes_none : {p : Page} → p.at ≤ length p.room.now → WritesOn [] p p
+writes_none h = record { writes = writes_nothing h; page = record { room = refl } }
+
+pub writes_on_then : {s t : List ℕ} {p p₁ p₂ : Page} → WritesOn s p p₁ → WritesOn t p₁ p₂ → WritesOn (s ++ t) p p₂
+writes_on_then w v = record { writes = writes_then w.writes v.writes; page = record { room = v.page.room ∙ w.page.room } }
 
 -- What fits is put, what does not is not.
 pub puts_whole : {p room room' : List ℕ} {at r : ℕ} → Writes p at room r room' → Puts p at room r room'
@@ -86,6 +89,9 @@ writes_put {p} {room} {room'} {at} {r} h k =
     let t = le-leb (at + length p) (length room) h in
     let e : r ≡ at + length p = simp t at k.is in
     record { is = e; room_is = simp t at k.room_is; inside = omega arith }
+
+pub writes_line : {s : List ℕ} {p p' : Page} → p.at + length s ≤ length p.room.now → PutsLine s p p' → WritesOn s p p'
+writes_line h k = record { writes = writes_put h k.puts; page = k.page }
 
 short_fitting : (p : List ℕ) (at : ℕ) (room : List ℕ) (d : Bool) → leb (at + length p) (length room) ≡ d → at ≤ length room → at + length (fitting p at room) ≤ length room
 unfolding fitting

@@ -10,7 +10,8 @@ use Rattle.listing.specs.Listing.{Reading, Acts, list_step}
 use Rattle.listing.specs.Session.{Hears}
 use Rattle.std.proofs.Common.{Option}
 use Rattle.listing.specs.declared.Taken.{Taken}
-use Rattle.listing.specs.Promises.{IsDigit, Takes, Spelt, Puts, PutsAnswer, Finishes, GoesOn}
+use Rattle.listing.specs.declared.Page.{Page}
+use Rattle.listing.specs.Promises.{IsDigit, Takes, Spelt, Puts, PutsLine, PutsAnswer, Finishes, GoesOn}
 
 pub digit_of_unique : {c : ℕ} {r r' : Option ℕ} → IsDigit c r → IsDigit c r' → r ≡ r'
 digit_of_unique p q = p.is ∙ sym q.is
@@ -21,12 +22,15 @@ take_unique p q = p.is ∙ sym q.is
 pub spelt_unique : {b : ℕ} {r r' : List ℕ} → Spelt b r → Spelt b r' → r ≡ r'
 spelt_unique p q = p.is ∙ sym q.is
 
--- For `put_line` and `put_error`.
 pub puts_unique : {p room room₁ room₂ : List ℕ} {at r r' : ℕ} → Puts p at room r room₁ → Puts p at room r' room₂ → (r ≡ r') × (room₁ ≡ room₂)
 puts_unique p q = (p.is ∙ sym q.is, p.room_is ∙ sym q.room_is)
 
-pub put_answer_unique : {answer room room₁ room₂ : List ℕ} {at r r' : ℕ} → PutsAnswer answer at room r room₁ → PutsAnswer answer at room r' room₂ → (r ≡ r') × (room₁ ≡ room₂)
-put_answer_unique p q = puts_unique p.puts q.puts
+-- For `put_line` and `put_error`.
+pub put_line_unique : {s : List ℕ} {p p₁ p₂ : Page} → PutsLine s p p₁ → PutsLine s p p₂ → (p₁.at ≡ p₂.at) × (p₁.room.now ≡ p₂.room.now)
+put_line_unique a b = puts_unique a.puts b.puts
+
+pub put_answer_unique : {answer : List ℕ} {p p₁ p₂ : Page} → PutsAnswer answer p p₁ → PutsAnswer answer p p₂ → (p₁.at ≡ p₂.at) × (p₁.room.now ≡ p₂.room.now)
+put_answer_unique a b = put_line_unique a.line b.line
 
 pub put_last_unique : {ended : Bool} {waiting : Option ℕ} {room room₁ room₂ : List ℕ} {r r' : ℕ} → Finishes ended waiting room r room₁ → Finishes ended waiting room r' room₂ → (r ≡ r') × (room₁ ≡ room₂)
 put_last_unique p q = puts_unique p.puts q.puts

@@ -8,6 +8,7 @@ use Rattle.listing.specs.Session.{goes_on}
 use Rattle.listing.specs.Tokens.{digit_of, sign_of, byte_of, take_of}
 use Rattle.listing.specs.declared.Token.{Token}
 use Rattle.listing.specs.declared.Taken.{Taken}
+use Rattle.listing.specs.declared.Page.{Page}
 
 pub record IsDigit (character : ℕ) (r : Option ℕ) : Type 0 where
   pub is : r ≡ digit_of character
@@ -23,8 +24,17 @@ pub record Puts (p : List ℕ) (at : ℕ) (room : List ℕ) (r : ℕ) (room' : L
   pub is : r ≡ at + length (fitting p at room)
   pub room_is : room' ≡ over_at at (fitting p at room) room
 
-pub record PutsAnswer (answer : List ℕ) (at : ℕ) (room : List ℕ) (r : ℕ) (room' : List ℕ) : Type 0 where
-  pub puts : Puts (answer_line answer) at room r room'
+-- Behind the reference of a page lies the same room as before.
+pub record SamePage (p p' : Page) : Type 0 where
+  pub room : p'.room.ghost_name ≡ p.room.ghost_name
+
+-- The same behind the lines that stand on a page.
+pub record PutsLine (s : List ℕ) (p p' : Page) : Type 0 where
+  pub puts : Puts s p.at p.room.now p'.at p'.room.now
+  pub page : SamePage p p'
+
+pub record PutsAnswer (answer : List ℕ) (p p' : Page) : Type 0 where
+  pub line : PutsLine (answer_line answer) p p'
 
 pub record Finishes (ended : Bool) (waiting : Option ℕ) (room : List ℕ) (r : ℕ) (room' : List ℕ) : Type 0 where
   pub puts : Puts (last_line ended waiting) 0 room r room'
@@ -49,7 +59,11 @@ pub record Writes (p : List ℕ) (at : ℕ) (room : List ℕ) (r : ℕ) (room' :
   pub room_is : room' ≡ over_at at p room
   pub inside : r ≤ length room
 
--- What a step, d, of a listing leaves: where the listing then stands, and its lines in the room from a place on.
-pub record Steps {S : Type 0} (d : Done (Reading S) ℕ) (room : List ℕ) (at : ℕ) (s' : Reading S) (place : ℕ) (room' : List ℕ) : Type 0 where
+pub record WritesOn (s : List ℕ) (p p' : Page) : Type 0 where
+  pub writes : Writes s p.at p.room.now p'.at p'.room.now
+  pub page : SamePage p p'
+
+-- What a step, d, of a listing leaves: where the listing then stands, and its lines behind those on the page.
+pub record Steps {S : Type 0} (d : Done (Reading S) ℕ) (p : Page) (s' : Reading S) (p' : Page) : Type 0 where
   pub next : s' ≡ d.next
-  pub writes : Writes d.told at room place room'
+  pub writes : WritesOn d.told p p'

@@ -3,8 +3,8 @@
 #![tactic(auto)]
 
 ghost use Rattle.std.specs.Prelude.{◌+◌, ◌*◌, ◌<◌, ◌≤◌, length};
-ghost use Rattle.listing.specs.Lines.{hex_byte, hex_bytes, line_of, error_line};
-ghost use Rattle.listing.specs.Promises.{IsDigit, Takes, Signs, Joined, Capital, Spelt, Puts, PutsAnswer, Writes, Finishes, GoesOn};
+ghost use Rattle.listing.specs.Lines.{hex_bytes, line_of, error_line};
+ghost use Rattle.listing.specs.Promises.{IsDigit, Takes, Signs, Joined, Capital, Spelt, PutsLine, PutsAnswer, WritesOn, Finishes, GoesOn};
 
 // What a character says, with the digit before it that waits for its second.
 // stays: six cases that each listing tells apart; an Option or a Result would only fold two of them into one and open it again.
@@ -25,6 +25,13 @@ pub enum Token {
 pub struct Taken {
     pub waiting: Option<u8>,
     pub token: Token,
+}
+
+// The room for lines, and the place behind those that stand in it.
+#[derive(Drop)]
+pub struct Page<'a> {
+    pub room: &'a mut [u8],
+    pub at: usize,
 }
 
 // What a character is worth as a hex digit, of either case.
@@ -99,71 +106,63 @@ fn capital(n: u8) -> u8
     }
 }
 
-// A line from a place of the room on: its letter, each byte after a space, a line feed. Answers the next place, which is the same where
-// the line does not fit.
-pub fn put_line(letter: u8, bytes: &[u8], room: &mut [u8], at: usize) -> usize
-    ensures { Puts (line_of letter bytes.now) at room.old result room.new }
+// A line behind those on the page: its letter, each byte after a space, a line feed. Nothing is put where it does not fit whole.
+pub fn put_line(letter: u8, bytes: &[u8], page: &mut Page)
+    ensures { PutsLine (line_of letter bytes.now) page.old page.new }
 {
-    if room.len() < 2 {
-        return at;
+    let left = page.room.len().saturating_sub(page.at);
+    if left < 2 || bytes.len() > (left - 2) / 3 {
+        return;
     }
-    if room.len() - 2 < at {
-        return at;
-    }
-    if bytes.len() <= (room.len() - 2 - at) / 3 {
-        return write_line(letter, bytes, room, at);
-    }
-    at
+    write_line(letter, bytes, page);
 }
 
-fn write_line(letter: u8, bytes: &[u8], room: &mut [u8], at: usize) -> usize
-    requires { at + 3 * length bytes.now + 2 ≤ length room.old }
-    ensures { Writes (line_of letter bytes.now) at room.old result room.new }
+fn write_line(letter: u8, bytes: &[u8], page: &mut Page)
+    requires { page.old.at + 3 * length bytes.now + 2 ≤ length page.old.room.now }
+    ensures { WritesOn (line_of letter bytes.now) page.old page.new }
 {
-    room[at] = letter;
-    let end = spell(bytes, room, at + 1);
-    room[end] = b'\n';
-    end + 1
+    write(&[letter], page);
+    spell(bytes, page);
+    write(b"\n", page);
 }
 
-fn spell(bytes: &[u8], room: &mut [u8], at: usize) -> usize
-    requires { at + 3 * length bytes.now ≤ length room.old }
-    ensures { Writes (hex_bytes bytes.now) at room.old result room.new }
+fn spell(bytes: &[u8], page: &mut Page)
+    requires { page.old.at + 3 * length bytes.now ≤ length page.old.room.now }
+    ensures { WritesOn (hex_bytes bytes.now) page.old page.new }
 {
-    let mut place = at;
     for b in bytes {
-        place = spell_byte(*b, room, place);
+        let [high, low] = spelt(*b);
+        write(&[b' ', high, low], page);
     }
-    place
 }
 
-fn spell_byte(b: u8, room: &mut [u8], at: usize) -> usize
-    requires { at + 3 ≤ length room.old }
-    ensures { Writes (hex_byte b) at room.old result room.new }
+fn write(bytes: &[u8], page: &mut Page)
+    requires { page.old.at + length bytes.now ≤ length page.old.room.now }
+    ensures { WritesOn bytes.now page.old page.new }
 {
-    let [high, low] = spelt(b);
-    room[at..at + 3].copy_from_slice(&[b' ', high, low]);
-    at + 3
+    let end = page.at + bytes.len();
+    page.room[page.at..end].copy_from_slice(bytes);
+    page.at = end;
 }
 
 // The line of an answer, if one goes out.
-pub fn put_answer(answer: &[u8], room: &mut [u8], at: usize) -> usize
-    ensures { PutsAnswer answer.now at room.old result room.new }
+pub fn put_answer(answer: &[u8], page: &mut Page)
+    ensures { PutsAnswer answer.now page.old page.new }
 {
     if answer.is_empty() {
-        return at;
+        return;
     }
-    put_line(b'A', answer, room, at)
+    put_line(b'A', answer, page);
 }
 
 // The line of what is wrong.
-pub fn put_error(room: &mut [u8], at: usize) -> usize
-    ensures { Puts error_line at room.old result room.new }
+pub fn put_error(page: &mut Page)
+    ensures { PutsLine error_line page.old page.new }
 {
-    put_line(b'E', b"", room, at)
+    put_line(b'E', b"", page);
 }
 
-// The line due at the end of a text, if one is: a digit that still waits stands alone.
+// The line due at the end of a text, if one is: a digit that still waits stands alone. Answers how many bytes it has, at the room's front.
 pub fn put_last(ended: bool, waiting: Option<u8>, room: &mut [u8]) -> usize
     ensures { Finishes ended waiting room.old result room.new }
 {
@@ -171,7 +170,11 @@ pub fn put_last(ended: bool, waiting: Option<u8>, room: &mut [u8]) -> usize
         return 0;
     }
     match waiting {
-        Some(_) => put_error(room, 0),
+        Some(_) => {
+            let mut page = Page { room, at: 0 };
+            put_error(&mut page);
+            page.at
+        }
         None => 0,
     }
 }

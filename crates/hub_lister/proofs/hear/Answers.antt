@@ -7,7 +7,7 @@ use Rattle.hub_lister.proofs.Theorems.{listens}
 use Rattle.hub_lister.proofs.hear.Goals as goal
 
 pub loop-taken-init : goal.loop-taken-init
-loop-taken-init c = (listing_none, record { line = refl; gather = refl }, record { room = refl })
+loop-taken-init c = (listing_none refl, record { line = refl; gather = refl })
 
 pub returns-then-not-goes_on : goal.returns-then-not-goes_on
 returns-then-not-goes_on c = listens (search rules) (search rules) (search rules) (listing_left c.loop-taken.invariant.0 c.loop-taken-test.true c.goes_on.ensures c.if-not-goes_on.true)
@@ -18,8 +18,7 @@ character-present-requires c = omega (arith, room_for c.goes_on.ensures c.if-not
 pub loop-taken-preserved : goal.loop-taken-preserved
 loop-taken-preserved c = let s = c.character-present.ensures in (
   listing_more c.loop-taken.invariant.0 c.loop-taken-test.true c.goes_on.ensures c.if-not-goes_on.false s.steps,
-  record { line = s.buffers.line ∙ c.loop-taken.invariant.1.line; gather = s.buffers.gather ∙ c.loop-taken.invariant.1.gather },
-  record { room = s.page.room ∙ c.loop-taken.invariant.2.room },
+  record { line = s.same.line ∙ c.loop-taken.invariant.1.line; gather = s.same.gather ∙ c.loop-taken.invariant.1.gather },
 )
 
 pub returns : goal.returns

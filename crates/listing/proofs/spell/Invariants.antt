@@ -3,4 +3,4 @@ use Rattle.listing.proofs.Lines.{Spelling}
 use Rattle.listing.proofs.spell.Given as goal
 
 abbrev pub invariant-loop-b : goal.invariant-loop-b
-invariant-loop-b l = Spelling l.bytes l.at l.initial.room l.room l.b-index l.place
+invariant-loop-b l = Spelling l.bytes l.initial.page l.page l.b-index
