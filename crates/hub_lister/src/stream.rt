@@ -39,7 +39,8 @@ pub fn run<R: Read, W: Write>(
     lister
 }
 
-// The same from standard input to standard output, with the hub's two buffers of its own.
+// The same from standard input to standard output, with the hub's two buffers of its own. Text and room are lent as slices, which fit
+// the memory: of sizes given as const parameters that would have to be required.
 pub fn run_on_streams(rt: &(impl Input + Print), text: &mut [u8], room: &mut [u8]) -> Lister
     ensures { Left result }
 {
@@ -70,6 +71,7 @@ fn tell<W: Write>(
 {
     let mut present = lister;
     let mut rest = text;
+    // stays: no for, since only a call's answer says how much of the rest it has taken.
     while !present.ended && !rest.is_empty() {
         let listed = hear(present, line, gather, rest, room);
         write(writer, room, listed.count);

@@ -163,6 +163,7 @@ pub fn put_error(page: &mut Page)
 }
 
 // The line due at the end of a text, if one is: a digit that still waits stands alone. Answers how many bytes it has, at the room's front.
+// stays: 0 is the count of no bytes, and no sign that anything failed.
 pub fn put_last(ended: bool, waiting: Option<u8>, room: &mut [u8]) -> usize
     ensures { Finishes ended waiting room.old result room.new }
 {
