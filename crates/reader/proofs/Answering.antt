@@ -20,8 +20,6 @@ use Rattle.packet.specs.declared.Refusal.{Refusal}
 use Rattle.packet.specs.declared.Reply.TheVariants.{Ack, Nak}
 use Rattle.std.proofs.Common.{Result, Ok, Err}
 use Rattle.packet.proofs.Writing.{length_body, length_seal, enough, sealed_around, reply_written, reply_never, nak_length, nak_never}
-use Rattle.framer.specs.Halves.{AcceptsLast}
-use Rattle.framer.specs.declared.Halves.{Halves}
 use Rattle.sender.specs.Sender.{Sent, sender_step}
 use Rattle.sender.specs.Promises as sending
 use Rattle.sender.specs.declared.Heard.{Heard}
@@ -38,13 +36,12 @@ use Rattle.commands.specs.declared.Command.TheVariants as command
 use Rattle.commands.specs.declared.Acted.{Acted}
 use Rattle.commands.specs.declared.Device.{Device}
 use Rattle.reader.specs.Reader.{CoreState, Output, refused, answered, sent, reader_answer_size, handshake, if_handshake, request_bytes, refuses, no_packet_step, is_request, answer_to, sender_hears}
-use Rattle.reader.specs.Promises.{told_of, answer_of, sent_of, last_answer_of, core_of, sender_hearing, heeded, reader_of, Steps, SoundCore, Handshake, Writes, StepOf, Accepts, Leaves, ToSender, Again, Acts, Settles}
+use Rattle.reader.specs.Promises.{told_of, answer_of, sent_of, last_answer_of, core_of, sender_hearing, heeded, Steps, SoundCore, Handshake, Writes, StepOf, Leaves, ToSender, Again, Acts}
 use Rattle.reader.specs.declared.Told.{Told}
 use Rattle.reader.specs.declared.Told.TheVariants as told
 use Rattle.reader.specs.declared.Core.{Core}
 use Rattle.reader.specs.declared.Stepped.{Stepped}
 use Rattle.reader.specs.declared.Reader.{Reader}
-use Rattle.reader.specs.declared.Taken.{Taken}
 
 -- ---- the control value
 
@@ -60,17 +57,6 @@ module _ {reader : Reader} where
 -- An answer that fits its buffer.
 pub kept_fits : {n : ℕ} (answers : List ℕ) → n ≤ reader_answer_size → length answers ≡ reader_answer_size → n ≤ length answers
 kept_fits answers h l = omega arith
-
--- The control value after an event, with this line.
-abbrev placed : Halves → Stepped → Taken
-placed line s = record { reader = reader_of line s.core; told = s.told; answer = s.answer; outcome = s.outcome }
-
-module _ {h line : Halves} {n : ℕ} {s : Stepped} {a : Bool} (p : Accepts s.told a) where
-  pub settles_accepted : {h' : Halves} → a ≡ true → AcceptsLast h n h' → line ≡ h' → Settles h n s (placed line s)
-  settles_accepted e k l = record { is = simp (l, k.is, sym p.is ∙ e) }
-
-  pub settles_other : a ≡ false → line ≡ h → Settles h n s (placed line s)
-  settles_other e l = record { is = simp (l, sym p.is ∙ e) }
 
 -- ---- ACK and NAK
 

@@ -258,6 +258,9 @@ pub record StepOf (c : Core) (t : Told) (n : ℕ) (r : Stepped) : Type 0 where
 pub record SentBy (reader : Reader) (s : Sending) (r : Started) : Type 0 where
   pub is : r ≡ started_of reader s
 
+pub record Joined (h : Halves) (s : Stepped) (r : Taken) : Type 0 where
+  pub is : r ≡ record { reader = reader_of h s.core; told = s.told; answer = s.answer; outcome = s.outcome }
+
 pub record Accepts (t : Told) (r : Bool) : Type 0 where
   pub is : r ≡ accepts_name t
 

@@ -1,11 +1,9 @@
 -- `reader::settle` meets its contract: a packet that was accepted stays where it was received. Assumes nothing.
-use Rattle.reader.proofs.Answering.{settles_accepted, settles_other}
+use mathlib.Core.Path.{sym, ◌∙◌}
 use Rattle.reader.proofs.settle.Goals as goal
-use Rattle.reader.proofs.settle.Goals.{then-accepted, else-accepted}
+
+pub returns-then-accepted : goal.returns-then-accepted
+returns-then-accepted c = record { is = c.joined.ensures.is ∙ simp (c.accept.ensures.is, sym c.accepted.ensures.is ∙ c.if-accepted.true) }
 
 pub returns : goal.returns
-returns c =
-    elim c.if-accepted.branch [
-      | then-accepted w ↦ settles_accepted c.accepted.ensures w.if-accepted.true w.accept-line.ensures w.line-is
-      | else-accepted w ↦ settles_other c.accepted.ensures w.if-accepted.false w.line-is
-    ]
+returns c = record { is = c.joined-2.ensures.is ∙ simp (sym c.accepted.ensures.is ∙ c.if-accepted.false) }
