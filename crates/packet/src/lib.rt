@@ -277,7 +277,7 @@ fn put(room: &mut [u8], opcode: u8, source: u8, status: u8, data: &[u8]) -> Resu
     ensures { Put room.old opcode source status «data».now result room.new }
 {
     fields(opcode, source, status, data.len())?;
-    room[HEAD_SIZE..HEAD_SIZE + data.len()].copy_from_slice(data);
+    words::copy(data, &mut room[HEAD_SIZE..HEAD_SIZE + data.len()]);
     fill(room, opcode, source, status, data.len())
 }
 

@@ -10,9 +10,9 @@ use lib.ListN.{length, take, drop, length-append, length-take, length-drop, take
 use lib.Seq.{take_all, take-append-le, take-append_seam, drop-append-le}
 use borrow.Author.Tests.{eq-eqb, ne_eqb, lt-ltb, le-ltb}
 use Rattle.std.specs.Array.{IsFirstChunk}
-use Rattle.words.specs.Lists.{both, either, same_bytes, over, over_at}
+use Rattle.words.specs.Lists.{both, either, same_bytes, over, over_at, Copied}
 use Rattle.words.specs.Machine.{Done}
-use Rattle.words.proofs.Lists.{over_nil, part_over, both_false, other_length}
+use Rattle.words.proofs.Lists.{over_nil, part_over, both_false, other_length, copied_over}
 use Rattle.packet.specs.Opcodes.{reader, decode_data}
 use Rattle.packet.specs.Packet.{body_of}
 use Rattle.packet.specs.declared.Refusal.TheVariants as refusal
@@ -313,12 +313,9 @@ begun_from i code m n =
 begun_is : {i : Sender} (code : ℕ) {m : List ℕ} {n : ℕ} → Idle false i → NextSize [] m n → begun_from i code m n ≡ begun_control code m
 begun_is code i k = rw (i.is, k.is) refl
 
-pub begin_copy : {s i : Sender} {buffer part room room' m : List ℕ} {code n : ℕ} {gap : Bool} {r : Sending} → Idle false i → part ≡ m →
-    Due s buffer code m gap → NextSize [] m n → Copies (begun_from i code m n) (part ++ drop (length m) buffer) 0 gap room r room' →
-    Begins s buffer room code m r (part ++ drop (length m) buffer) room'
-unfolding over
-begin_copy {code = code} idle same due k c =
-    record { buffer_is = rw same refl; copies = rw (begun_is code idle k, due.is) at c }
+pub begin_copy : {s i : Sender} {buffer buffer' room room' m : List ℕ} {code n : ℕ} {gap : Bool} {r : Sending} → Idle false i → length m ≤ length buffer →
+    Copied m buffer buffer' → Due s buffer code m gap → NextSize [] m n → Copies (begun_from i code m n) buffer' 0 gap room r room' → Begins s buffer room code m r buffer' room'
+begin_copy {code = code} idle h copied due k c = record { buffer_is = copied_over h copied; copies = rw (begun_is code idle k, due.is) at c }
 
 pub begun_out_by : {i : Sender} {m : List ℕ} (code : ℕ) {n : ℕ} → length m ≤ 4096 → Idle false i → NextSize [] m n → Out (begun_from i code m n)
 begun_out_by {m = m} code l i k = rw (begun_is code i k) (begun_out code m [] l)

@@ -154,7 +154,7 @@ fn begin(
     ensures { Begins sender buffer.old room.old code message.now result buffer.new room.new }
 {
     let gap = gap_due(sender, buffer, code, message);
-    buffer[..message.len()].copy_from_slice(message);
+    words::copy(message, buffer);
     let next = Sender {
         out: true,
         code,
@@ -372,6 +372,6 @@ fn copy(code: u8, piece: &[u8], room: &mut [u8; PACKET_SIZE], status: u8) -> usi
 {
     let count = piece.len() + 1;
     room[4] = code;
-    room[5..4 + count].copy_from_slice(piece);
+    words::copy(piece, &mut room[5..4 + count]);
     packet::size_of(packet::fill(room, DECODE_DATA, READER, status, count))
 }

@@ -11,8 +11,9 @@ use lib.Dec.{eqb}
 use lib.ListN.{length, get_or, take, drop, set, take-append-drop, length-append, length-take, length-drop}
 use lib.Seq.{set_split, take_at, drop_at, take-append-add, drop-append-add, take-length, length-take-le, drop-drop, take_all, drop-cons, take-append-le, drop-append-le}
 use lib.Pointwise.{pointwise}
+use Rattle.std.proofs.lemmas.List.{drop_all, append-nil}
 use borrow.Author.Tests.{eq-eqb, ne_eqb, eqb-true}
-use Rattle.words.specs.Lists.{both, Bytes, over, over_at, Copied, same_bytes, Compared, either}
+use Rattle.words.specs.Lists.{both, Bytes, over, over_at, Over, Copied, same_bytes, Compared, either}
 
 -- ---- contradictions and tests
 
@@ -172,16 +173,19 @@ behind a p q room room₁ part e h k m =
 pub copied_over : {from room room' : List ℕ} → length from ≤ length room → Copied from room room' → room' ≡ over from room
 copied_over {from} {room} h k = k.is ∙ ap (λ (p : List ℕ). over p room) (take_all (length room) from h)
 
--- The front of the room, of as many bytes as both have, copied over, and the rest put back.
-pub copied_front : {from room front : List ℕ} {n : ℕ} → n ≡ min (length from) (length room) → front ≡ take n from → Copied from room (front ++ drop n room)
-unfolding over
-copied_front {from} {room} {n = n} e f =
-    let long : length (take n from) ≡ n = length-take-le n from (omega arith) in
-    record { is = rw (by (dec_le (length room) (length from)), long, f) refl }
+-- As many bytes as both have are as many as the room holds.
+pub copied_least : {from room room' : List ℕ} {n : ℕ} → n ≡ min (length from) (length room) → Over (take n from) room room' → Copied from room room'
+copied_least {from} {room} {n = n} e o = record { is = o.is ∙ ap (λ (p : List ℕ). over p room) (sym (by (dec_le (length room) (length from)))) }
   where
     by : Dec (length room ≤ length from) → take (length room) from ≡ take n from
     by (yes h) = ap (λ (k : ℕ). take k from) (omega arith)
     by (no h) = take_all (length room) from (omega arith) ∙ sym (take_all n from (omega arith))
+
+-- A room that holds just as many bytes.
+pub copied_exact : {from room room' : List ℕ} → length from ≡ length room → Copied from room room' → room' ≡ from
+unfolding over
+copied_exact {from} {room} h k =
+    k.is ∙ rw (take_all (length room) from (omega arith)) (rw (drop_all (length from) room (omega arith)) (append-nil from))
 
 -- One store.
 pub set_over_at : (room : List ℕ) (i x : ℕ) → i < length room → set room i x ≡ over_at i (x ∷ []) room

@@ -8,4 +8,4 @@ pub present-size-requires : goal.present-size-requires
 present-size-requires c = begun_out_by c.args.code (omega arith) c.idle.ensures c.next_size.ensures
 
 pub returns : goal.returns
-returns c = begin_copy c.idle.ensures c.copy_from_slice.ensures.after c.gap_due-gap.ensures c.next_size.ensures (copies_as c.present-size.ensures)
+returns c = begin_copy c.idle.ensures (omega arith) c.copy.ensures c.gap_due-gap.ensures c.next_size.ensures (copies_as c.present-size.ensures)
