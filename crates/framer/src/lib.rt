@@ -300,7 +300,7 @@ pub fn take_in(halves: Halves, buffer: &mut [u8; LINE_SIZE], bytes: &[u8]) -> Ta
     if count == 0 {
         return TakenIn { halves, count };
     }
-    buffer[from + n..from + n + count].copy_from_slice(&bytes[..count]);
+    words::copy(&bytes[..count], &mut buffer[from + n..from + n + count]);
     TakenIn {
         halves: Halves {
             framer: Framer {

@@ -401,7 +401,7 @@ fn keep(code: u8, at: usize, piece: &[u8], gather: &mut [u8; MESSAGE_SIZE]) -> J
     requires { at + length piece.now ≤ message_size }
     ensures { Keeps code at piece.now gather.old result gather.new }
 {
-    gather[at..at + piece.len()].copy_from_slice(piece);
+    words::copy(piece, &mut gather[at..at + piece.len()]);
     Joined {
         gathering: Gathering {
             barred: false,
@@ -424,8 +424,8 @@ fn hand_out(
     requires { at + length piece.now ≤ message_size }
     ensures { HandsOut code at piece.now gather.now message.old result message.new }
 {
-    message[..at].copy_from_slice(&gather[..at]);
-    message[at..at + piece.len()].copy_from_slice(piece);
+    words::copy(&gather[..at], &mut message[..at]);
+    words::copy(piece, &mut message[at..at + piece.len()]);
     Joined {
         gathering: closed(false),
         told: Told::Message {

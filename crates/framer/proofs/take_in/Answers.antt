@@ -1,5 +1,7 @@
 -- `framer::take_in` meets its contract: no byte, a deaf framer, none inside a packet, or as many as go inside. Assumes nothing.
 use native.Mathlib.Omega.{arith}
+use Rattle.std.proofs.Common.{rules}
+use Rattle.words.proofs.Lists.{copied_exact}
 use Rattle.framer.proofs.Silence.{takes_none, takes_deaf, takes_left, takes_moved}
 use Rattle.framer.proofs.take_in.Goals as goal
 
@@ -12,8 +14,8 @@ returns-then-halves c = takes_deaf c.told-buffer (record { each = c.fits-buffer 
 pub returns-then-count-eq0 : goal.returns-then-count-eq0
 returns-then-count-eq0 c = takes_left c.args.halves _ _ _ _ _ c.told-buffer c.if-halves.false c.place-from.ensures c.begun-n.ensures c.inside_of-count.ensures c.if-count-eq0.true
 
-pub slice_bounds-copy_from_slice-end : goal.slice_bounds-copy_from_slice-end
-slice_bounds-copy_from_slice-end c = let fits = c.inside_of-count.ensures.inside c.if-count-eq0.false in omega arith
+pub slice_bounds-copy-end-2 : goal.slice_bounds-copy-end-2
+slice_bounds-copy-end-2 c = let fits = c.inside_of-count.ensures.inside c.if-count-eq0.false in omega arith
 
 pub returns : goal.returns
-returns c = takes_moved c.args.halves _ _ _ _ _ c.told-buffer c.if-halves.false c.place-from.ensures c.begun-n.ensures c.inside_of-count.ensures (record { each = c.fits-buffer }) (record { each = λ i. omega (arith, c.type_inv.bytes i) }) c.if-count-eq0.false c.copy_from_slice.ensures.after
+returns c = takes_moved c.args.halves _ _ _ _ _ c.told-buffer c.if-halves.false c.place-from.ensures c.begun-n.ensures c.inside_of-count.ensures (record { each = c.fits-buffer }) (record { each = λ i. omega (arith, c.type_inv.bytes i) }) c.if-count-eq0.false (copied_exact (search rules) c.copy.ensures)
