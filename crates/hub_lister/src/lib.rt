@@ -99,6 +99,7 @@ pub fn finish(lister: Lister, room: &mut [u8]) -> usize
 }
 
 // One character, and the lines due for it. What is wrong ends the listing.
+// stays: four functions ask for lines_size on the page; no type can carry that, as it holds before a character and not behind its lines.
 fn character(lister: Lister, buffers: &mut Buffers, character: u8, page: &mut Page) -> Lister
     requires { page.old.at + lines_size ≤ length page.old.room.now }
     ensures { Characters lister buffers.old character page.old result buffers.new page.new }
