@@ -9,8 +9,8 @@ use lib.Dec.{ltb}
 use lib.ListN.{length, get_or, take, drop, set, length-append, length-set, length-take, length-drop}
 use lib.Seq.{get_or-drop, take-suc, take_all, length-take-le}
 use borrow.Author.Tests.{lt-ltb, le-ltb}
-use Rattle.words.specs.Lists.{pick, over, Over}
-use Rattle.words.proofs.Lists.{never, length_over, part_over, over_nil, back, behind, set_over_at, over_take, over_behind}
+use Rattle.words.specs.Lists.{pick, over, Over, Copied}
+use Rattle.words.proofs.Lists.{never, copied_over, length_over, over_nil, back, behind, set_over_at, over_take, over_behind}
 use Rattle.packet.specs.declared.Refusal.{Refusal}
 use Rattle.packet.specs.declared.Refusal.TheVariants.{Room}
 use Rattle.table.specs.Rows.{parameter_count, rows}
@@ -19,7 +19,7 @@ use Rattle.table.specs.Promises.{values_of, showing, AllPairs}
 use Rattle.table.specs.declared.Table.{Table}
 use Rattle.std.specs.Prelude.{Result, Ok, Err}
 use Rattle.table.proofs.Finding.{many, place_at, one_more, setting_at, setting_row}
-use Rattle.table.proofs.Answering.{over_whole}
+use Rattle.table.proofs.Answering.{length_all}
 use Rattle.saved.specs.Saved.{edition1, pairs_of, locks_of, lock_count, form_of, set_size}
 use Rattle.saved.specs.Promises.{Saves, Puts, PutsLocks, lock_bytes}
 use Rattle.saved.proofs.Forms.{one_most, locks_snoc, count_snoc, count_most}
@@ -141,10 +141,10 @@ front_put {room = x ∷ y ∷ room} h = record { is = rw many refl }
 
 -- The parts of a form, each behind the one before it.
 pub form_put : {t : Table} {room room₁ room₂ all part part₂ : List ℕ} {count : ℕ} → set_size ≤ length room → Over (1 ∷ length rows ∷ []) room room₁ →
-    AllPairs t.permanent all → part ≡ all → room₂ ≡ take 2 room₁ ++ (part ++ drop 18 (drop 2 room₁)) →
+    AllPairs t.permanent all → Copied all (take (length room₁ - 2) (drop 2 room₁)) part → room₂ ≡ back 2 part room₁ →
     PutsLocks t.locked (take (length room₂ - 20) (drop 20 room₂)) count part₂ → Puts t room (20 + count) (back 20 part₂ room₂)
 unfolding form_of
-form_put {t} {room} {room₁} {room₂} {all} {part} {part₂} {count} h front pairs same f locks =
+form_put {t} {room} {room₁} {room₂} {all} {part} {part₂} {count} h front pairs copied f locks =
     let m = many in
     let p = pairs_of edition1 rows t.permanent in
     let q = lock_bytes t.locked in
@@ -152,10 +152,12 @@ form_put {t} {room} {room₁} {room₂} {all} {part} {part₂} {count} h front p
     let lq = length_locks1 rows t.locked in
     let c = count_most rows t.locked in
     let l : length room₁ ≡ length room = ap length front.is ∙ length_over (1 ∷ length rows ∷ []) room (omega arith) in
-    let whole : length (take 18 (drop 2 room₁)) ≡ length p = simp (length-take, length-drop) (omega arith) in
-    let written : part ≡ over p (take 18 (drop 2 room₁)) = same ∙ (pairs.is ∙ (pairs_written t.permanent ∙ sym (over_whole p (take 18 (drop 2 room₁)) whole))) in
-    let both : room₂ ≡ over (1 ∷ length rows ∷ p) room =
-    f ∙ (part_over 2 18 p room₁ part (omega arith) (omega arith) written ∙ rw front.is (over_behind 2 (1 ∷ length rows ∷ []) p room refl)) in
+    let n = length_all pairs in
+    let fits : length all ≤ length (take (length room₁ - 2) (drop 2 room₁)) = simp (length-take, length-drop) (omega arith) in
+    let same : all ≡ p = pairs.is ∙ pairs_written t.permanent in
+    let written : part ≡ over p (take (length room₁ - 2) (drop 2 room₁)) =
+    copied_over fits copied ∙ ap (λ (bytes : List ℕ). over bytes (take (length room₁ - 2) (drop 2 room₁))) same in
+    let both : room₂ ≡ over (1 ∷ length rows ∷ p) room = f ∙ behind 2 (1 ∷ length rows ∷ []) p room room₁ part refl (omega arith) front.is written in
     record {
       is = let l = length-append p q in omega (arith, locks.is);
       room_is = behind 20 (1 ∷ length rows ∷ p) q room room₂ part₂ (omega arith) (omega arith) both locks.room_is;

@@ -54,7 +54,7 @@ fn put(table: Table, room: &mut [u8]) -> usize
     ensures { Puts table room.old result room.new }
 {
     put_front(room);
-    room[FRONT_SIZE..LOCKS_AT].copy_from_slice(&table::all_pairs(table.permanent));
+    words::copy(&table::all_pairs(table.permanent), &mut room[FRONT_SIZE..]);
     let count = put_locks(table.locked, &mut room[LOCKS_AT..]);
     LOCKS_AT + count
 }

@@ -3,15 +3,15 @@
 use Prim.Native.Nat.{ℕ, zero, suc, ◌+◌, ◌-◌, ◌*◌, ◌≤◌, ◌<◌}
 use mathlib.Core.Path.{◌≡◌, refl, sym, ap, ◌∙◌}
 use mathlib.Core.Bool.{Bool, true, false, not, ◌||◌}
-use mathlib.Core.List.{List, [], ◌∷◌, ◌++◌, append_assoc, append-nil}
+use mathlib.Core.List.{List, [], ◌∷◌, ◌++◌, append_assoc}
 use native.Mathlib.Numerals.{add-one}
 use native.Mathlib.Omega.{arith}
 use lib.Dec.{eqb, ltb}
 use lib.ListN.{length, get_or, take, drop, set, replicate, length-append, length-set, length-take, length-drop, get_or-replicate, drop_of_length-le}
 use lib.Seq.{drop-cons, take-suc, take-suc-set, take_all, drop-drop, sets-eq, get_or-set_same, get_or-set_other}
 use borrow.Author.Tests.{lt-ltb, le-ltb, ltb-true, eqb-true, eqb-false, not-true}
-use Rattle.words.specs.Lists.{pick, both, either, over, over_at}
-use Rattle.words.proofs.Lists.{length_over_at, part_over, set_over, both_left, both_right, never, either_true, over_behind}
+use Rattle.words.specs.Lists.{pick, both, either, over, over_at, Copied}
+use Rattle.words.proofs.Lists.{copied_over, length_over_at, part_over, set_over, both_left, both_right, never, either_true, over_behind}
 use Rattle.packet.specs.declared.Refusal.TheVariants.{Room}
 use Rattle.std.specs.Prelude.{Some, None, Ok, Err}
 use Rattle.std.specs.List.{list_any}
@@ -338,27 +338,27 @@ answer_by t asked room part ns count k h j a n m e =
           ∙ simp (y, d) (rw (set_over room 0 0xFF (omega arith)) (over_behind 1 (0xFF ∷ []) q room refl));
     }
 
--- What fills the whole room is all that is left in it.
-pub over_whole : (q room : List ℕ) → length room ≡ length q → over q room ≡ q
-unfolding over
-over_whole q room e = rw (drop_of_length-le room {i = length q} (omega arith)) (append-nil q)
+-- Two bytes for each parameter.
+pub length_all : {values all : List ℕ} → AllPairs values all → length all ≡ 2 * parameter_count
+length_all {values} p =
+    let n = length_pairs (showing values) (numbers_of rows) in
+    let l = length_numbers rows in
+    let m = many in
+    ap length p.is ∙ omega arith
 
 asks_all : (asked : List ℕ) (b : Bool) → b ≡ list_any (λ x. eqb x 0xFE) asked → member 0xFE asked ≡ b
 asks_all asked b k = sym (k ∙ member_any 0xFE asked)
 
 module _ {t : Table} {asked room part : List ℕ} {b : Bool} (h : pairs_size ≤ length room) (k : b ≡ list_any (λ x. eqb x 0xFE) asked) where
-  pub answer_all : {all : List ℕ} → b ≡ true → AllPairs t.present all → part ≡ all →
-      Answers t asked room (Ok pairs_size) (take 1 (set room 0 0xFF) ++ (part ++ drop (2 * parameter_count) (drop 1 (set room 0 0xFF))))
+  pub answer_all : {all : List ℕ} → b ≡ true → AllPairs t.present all → Copied all (take (length (set room 0 0xFF) - 1) (drop 1 (set room 0 0xFF))) part →
+      Answers t asked room (Ok pairs_size) (take 1 (set room 0 0xFF) ++ (part ++ drop (length (set room 0 0xFF) - 1) (drop 1 (set room 0 0xFF))))
   unfolding answered_numbers
-  answer_all e p f =
-      let q = pair_bytes (showing t.present) (numbers_of rows) in
-      let n = length_pairs (showing t.present) (numbers_of rows) in
-      let l = length_numbers rows in
-      let m = many in
-      let s = length-set room 0 0xFF in
-      let whole : length (take (2 * parameter_count) (drop 1 (set room 0 0xFF))) ≡ length q = simp (length-take, length-drop) (omega arith) in
-      answer_by t asked room part (numbers_of rows) (2 * parameter_count) (2 * parameter_count) h h (simp (asks_all asked b k ∙ e)) (omega arith) (omega arith)
-      (f ∙ (p.is ∙ sym (over_whole q (take (2 * parameter_count) (drop 1 (set room 0 0xFF))) whole)))
+  answer_all {all} e p c =
+      let l = length-set room 0 0xFF in
+      let n = length_all p in
+      let fits : length all ≤ length (take (length (set room 0 0xFF) - 1) (drop 1 (set room 0 0xFF))) = simp (length-take, length-drop) (omega arith) in
+      answer_by t asked room part (numbers_of rows) (2 * parameter_count) (length (set room 0 0xFF) - 1) h (omega arith) (simp (asks_all asked b k ∙ e)) (rw p.is at (sym n)) (omega arith)
+      (copied_over fits c ∙ ap (λ (bytes : List ℕ). over bytes (take (length (set room 0 0xFF) - 1) (drop 1 (set room 0 0xFF)))) p.is)
 
   pub answer_asked : {count : ℕ} → b ≡ false → AskedPairs t.present asked (take (length (set room 0 0xFF) - 1) (drop 1 (set room 0 0xFF))) count part →
       Answers t asked room (Ok (count + 1)) (take 1 (set room 0 0xFF) ++ (part ++ drop (length (set room 0 0xFF) - 1) (drop 1 (set room 0 0xFF))))

@@ -209,7 +209,7 @@ pub fn answer(table: Table, asked: &[u8], room: &mut [u8]) -> Result<usize, Refu
     }
     room[0] = 0xFF;
     if asked.contains(&ALL) {
-        room[1..PAIRS_SIZE].copy_from_slice(&all_pairs(table.present));
+        words::copy(&all_pairs(table.present), &mut room[1..]);
         return Ok(PAIRS_SIZE);
     }
     let count = asked_pairs(table.present, asked, &mut room[1..]);

@@ -4,4 +4,4 @@ use Rattle.saved.proofs.Writing.{form_put}
 use Rattle.saved.proofs.put.Goals as goal
 
 pub returns : goal.returns
-returns c = form_put c.requires c.put_front.ensures c.all_pairs.ensures c.copy_from_slice.ensures.after refl c.put_locks-count.ensures
+returns c = form_put c.requires c.put_front.ensures c.all_pairs.ensures c.copy.ensures refl c.put_locks-count.ensures
