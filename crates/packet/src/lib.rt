@@ -96,7 +96,7 @@ pub struct Head {
 }
 
 // An answer on the line: CMD_ACK, or CMD_NAK with its cause.
-// stays: an Option of a cause would read as an answer or none.
+// An Option of a cause would read as an answer or none.
 #[derive(Clone, Copy)]
 pub enum Reply {
     Ack,
@@ -110,8 +110,7 @@ pub fn number(refusal: Refusal) -> u8
     refusal as u8
 }
 
-// The cause of the NAK that answers it; 0 where nothing goes out.
-// stays: a number, with 0 for none, is what the table of refusals has in its column of causes.
+// The cause of the NAK that answers it. The rules' table prints 0 where nothing goes out, so this does too.
 pub fn cause(refusal: Refusal) -> u8
     ensures { Cause refusal result }
 {
@@ -203,7 +202,7 @@ pub fn source_allowed(source: u8) -> bool
 }
 
 // What building says of a packet's fields.
-// stays: opcode, source and status one by one, here and below: they come so from the calls for C, and a struct would be made at each call only to be taken apart.
+// Opcode, source and status come one by one from the calls for C: a struct would be made at each call only to be taken apart.
 #[tactic(auto, unfolding(crate::specs::Packet::fields_of))]
 fn fields(opcode: u8, source: u8, status: u8, n: usize) -> Result<usize, Refusal>
     ensures { Fields opcode source status n result }
@@ -281,8 +280,7 @@ fn put(room: &mut [u8], opcode: u8, source: u8, status: u8, data: &[u8]) -> Resu
     fill(room, opcode, source, status, data.len())
 }
 
-// How many bytes were written; none where it was refused.
-// stays: 0 for none, since the calls for C give a size beside their number, also where they refuse.
+// How many bytes were written, 0 where it was refused: the calls for C give a size beside their number, also where they refuse.
 pub fn size_of(built: Result<usize, Refusal>) -> usize
     ensures { SizeOf built result }
 {
@@ -303,7 +301,7 @@ pub fn answer(room: &mut [u8], source: u8, reply: Reply) -> Result<usize, Refusa
     }
 }
 
-// The NAK that answers a refusal: its size, 0 where nothing answers it.
+// The NAK that answers a refusal: its size. Where nothing answers it the room stays as it was, and its size is 0, as the cause is.
 #[tactic(auto, unfolding(crate::specs::Refusals::nak_of, crate::specs::Refusals::nak_bytes, crate::specs::Packet::build_of, crate::specs::Packet::written, words::specs::Lists::over, crate::specs::Packet::reply_opcode, crate::specs::Packet::reply_data))]
 pub fn nak(room: &mut [u8], source: u8, refusal: Refusal) -> Result<usize, Refusal>
     ensures { Naks room.old source refusal result room.new }

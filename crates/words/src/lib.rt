@@ -1,4 +1,5 @@
-// The small functions that every crate shares: a byte as a count, bytes copied to the front of a room, and a comparison.
+// Three small functions over the library's, with contracts that the crates above cite: a byte as a count, bytes copied to the front
+// of a room, and a comparison.
 #![tactic(auto)]
 
 ghost use Rattle.words.specs.Lists.{Wide, Copied, Compared};
@@ -16,13 +17,13 @@ pub fn copy(from: &[u8], room: &mut [u8])
 {
     let n = from.len().min(room.len());
     let part = &from[..n];
-    // stays a loop: copy_from_slice calls C's memmove, and the archive for C needs no other library.
+    // copy_from_slice of a length that is known only at run time calls C's memmove, and the archive for C needs no other library.
     for (i, byte) in part.iter().enumerate() {
         room[i] = *byte;
     }
 }
 
-// Whether both hold the same bytes; left at the first difference.
+// Whether both hold the same bytes.
 pub fn same(a: &[u8], b: &[u8]) -> bool
     ensures { Compared a.now b.now result }
 {
