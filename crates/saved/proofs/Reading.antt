@@ -16,9 +16,8 @@ use Rattle.std.proofs.lemmas.Grind.{same_number_lists}
 use Rattle.words.proofs.Loops.{Filling, filled_none, filled_more, filled_all}
 use Rattle.packet.specs.declared.Refusal.TheVariants.{Form}
 use Rattle.table.specs.Rows.{parameter_count, rows, supported, row_allows, allowed}
-use Rattle.table.specs.Promises.{row_of, values_of, changed_of}
+use Rattle.table.specs.Promises.{values_of, changed_of}
 use Rattle.table.specs.declared.Table.{Table}
-use Rattle.table.specs.declared.Setting.{Setting}
 use Rattle.table.specs.declared.TheConstants.{SETTINGS}
 use Rattle.std.specs.Prelude.{map}
 use Rattle.std.specs.List.{list_all, zip}
@@ -31,8 +30,8 @@ use Rattle.saved.proofs.Forms.{one_most, length_values, length_locks_in}
 use Rattle.saved.proofs.First.{length_form1}
 
 -- The number of a setting is its row's.
-number_row : (i : ℕ) → i < parameter_count → (setting_at i).number ≡ get_or (get_or rows i []) 0 0
-number_row i h = ap (λ (row : List ℕ). get_or row 0 0) (sym (setting_row i h))
+number_row : (i : ℕ) → i < parameter_count → get_or (setting_at i) 0 0 ≡ get_or (get_or rows i []) 0 0
+number_row i h = ap (λ (row : List ℕ). get_or row 0 0) (sym (setting_row i))
 
 -- ---- `values_in`
 
@@ -102,7 +101,7 @@ byte_of true = refl
 byte_of false = refl
 
 pub unlocking_more : {bytes : List ℕ} {locked : List Bool} {at i step : ℕ} {b : Bool} → Unlocking bytes locked at i → i < parameter_count →
-    ComesNext bytes at (setting_at i).number b → step ≡ bool_byte b → Unlocking bytes (set locked i b) (at + step) (i + 1)
+    ComesNext bytes at (get_or (setting_at i) 0 0) b → step ≡ bool_byte b → Unlocking bytes (set locked i b) (at + step) (i + 1)
 unlocking_more {bytes} {locked} {at} {i} {step} {b} k h n q =
     let p : at + step ≡ at + pick b 1 0 = ap (λ (m : ℕ). at + m) (q ∙ byte_of b) in
     let row = number_row i h in
@@ -128,29 +127,25 @@ pub row_allowed : (i v : ℕ) → i < length rows → allowed (get_or (get_or ro
 unfolding allowed supported
 row_allowed i v h = rw (place_at i h) (simp (lt-ltb i parameter_count (let m = many in omega arith)))
 
--- The settings beside the values, and the rows beside them.
-rows_beside : (settings : List Setting) (values : List ℕ) → length settings ≤ length values →
-    ((k v : ℕ) → k < length settings → allowed (get_or settings k (record { number = 0; lowest = 0; highest = 0; default = 0 })).number v
-    ≡ row_allows (row_of (get_or settings k (record { number = 0; lowest = 0; highest = 0; default = 0 }))) v) →
-    list_all (λ p. allowed p.0.number p.1) (zip settings values) ≡ rows_allow (map row_of settings) values
+-- The rows beside the values.
+rows_beside : (table : List (List ℕ)) (values : List ℕ) → length table ≤ length values →
+    ((k v : ℕ) → k < length table → allowed (get_or (get_or table k []) 0 0) v ≡ row_allows (get_or table k []) v) →
+    list_all (λ p. allowed (get_or p.0 0 0) p.1) (zip table values) ≡ rows_allow table values
 unfolding rows_allow
 rows_beside [] values l k = refl
-rows_beside (s ∷ rest) [] l k = absurd (omega arith)
-rows_beside (s ∷ rest) (v ∷ vs) l k =
-    and_both (allowed s.number v) (list_all (λ p. allowed p.0.number p.1) (zip rest vs))
+rows_beside (row ∷ rest) [] l k = absurd (omega arith)
+rows_beside (row ∷ rest) (v ∷ vs) l k =
+    and_both (allowed (get_or row 0 0) v) (list_all (λ p. allowed (get_or p.0 0 0) p.1) (zip rest vs))
     ∙ rw (k 0 v (omega arith), rows_beside rest vs (omega arith) (λ i w h. k (suc i) w (omega arith))) refl
 
-setting_allowed : (i v : ℕ) → i < parameter_count → allowed (setting_at i).number v ≡ row_allows (row_of (setting_at i)) v
-setting_allowed i v h =
-    subst (λ (row : List ℕ). allowed (get_or row 0 0) v ≡ row_allows row v) (setting_row i h) (row_allowed i v (let m = many in omega arith))
-
-pub all_judged : {values : List ℕ} {r : Bool} → length values ≡ parameter_count → r ≡ list_all (λ p. allowed p.0.number p.1) (zip SETTINGS values) → AllAllowed values r
+pub all_judged : {values : List ℕ} {r : Bool} → length values ≡ parameter_count → r ≡ list_all (λ p. allowed (get_or p.0 0 0) p.1) (zip SETTINGS values) → AllAllowed values r
 all_judged {values} l e =
+    let m = many in
     record {
       is =
           e
-          ∙ (rows_beside SETTINGS values (omega arith) setting_allowed
-          ∙ ap (λ (table : List (List ℕ)). rows_allow table values) settings_rows);
+          ∙ (ap (λ (table : List (List ℕ)). list_all (λ p. allowed (get_or p.0 0 0) p.1) (zip table values)) settings_rows
+          ∙ rows_beside rows values (omega arith) row_allowed);
     }
 
 -- ---- `exact` and `load`

@@ -106,9 +106,9 @@ locking_more {locked} {room₀} {room} {count} {i} {count'} {room'} k h count_by
     }
 
 module _ {locked : List Bool} {room₀ room : List ℕ} {count i : ℕ} (k : Locking locked room₀ room count i) (h : i < parameter_count) where
-  pub locking_one : get_or locked i false ≡ true → Locking locked room₀ (set room (count + 1) (setting_at i).number) (count + 1) (i + 1)
+  pub locking_one : get_or locked i false ≡ true → Locking locked room₀ (set room (count + 1) (get_or (setting_at i) 0 0)) (count + 1) (i + 1)
   locking_one e =
-      let n : (setting_at i).number ≡ get_or (get_or rows i []) 0 0 = ap (λ (row : List ℕ). get_or row 0 0) (sym (setting_row i h)) in
+      let n : (get_or (setting_at i) 0 0) ≡ get_or (get_or rows i []) 0 0 = ap (λ (row : List ℕ). get_or row 0 0) (sym (setting_row i)) in
       locking_more k (let m = many in omega arith) (rw e refl) (rw (e, n) refl)
 
   pub locking_not : get_or locked i false ≡ false → Locking locked room₀ room count (i + 1)

@@ -74,10 +74,10 @@ fn put_locks(locked: [bool; PARAMETER_COUNT], room: &mut [u8]) -> usize
     ensures { PutsLocks locked room.old result room.new }
 {
     let mut count = 0;
-    for (i, setting) in SETTINGS.iter().enumerate() {
+    for (i, &[number, ..]) in SETTINGS.iter().enumerate() {
         if locked[i] {
             count += 1;
-            room[count] = setting.number;
+            room[count] = number;
         }
     }
     room[0] = count as u8;
@@ -113,8 +113,8 @@ fn locks_in(bytes: &[u8]) -> [bool; PARAMETER_COUNT]
 {
     let mut locked = [false; PARAMETER_COUNT];
     let mut at = 0;
-    for (i, setting) in SETTINGS.iter().enumerate() {
-        let here = comes_next(bytes, at, setting.number);
+    for (i, &[number, ..]) in SETTINGS.iter().enumerate() {
+        let here = comes_next(bytes, at, number);
         locked[i] = here;
         at += usize::from(here);
     }
@@ -143,5 +143,5 @@ pub fn all_allowed(values: [u8; PARAMETER_COUNT]) -> bool
     SETTINGS
         .iter()
         .zip(&values)
-        .all(|(setting, value)| table::allowed(setting.number, *value))
+        .all(|(&[number, ..], &value)| table::allowed(number, value))
 }

@@ -102,16 +102,16 @@ two_more bytes k a b h =
     rw (two, take-suc-set (set bytes k a) (k + 1) b (simp length-set h), add-one k, take-suc-set bytes k a (omega arith)) (append_assoc (take k bytes) (a ∷ []) (b ∷ []))
 
 pub listing_more : {values bytes : List ℕ} {i : ℕ} → Listing values bytes i → i < parameter_count →
-    Listing values (set (set bytes (2 * i) (setting_at i).number) (2 * i + 1) (get_or values i 0)) (i + 1)
+    Listing values (set (set bytes (2 * i) (get_or (setting_at i) 0 0)) (2 * i + 1) (get_or values i 0)) (i + 1)
 listing_more {values} {bytes} {i} k h =
     let m = many in
-    let n : (setting_at i).number ≡ get_or (get_or rows i []) 0 0 = ap (λ (row : List ℕ). get_or row 0 0) (sym (setting_row i h)) in
+    let n : (get_or (setting_at i) 0 0) ≡ get_or (get_or rows i []) 0 0 = ap (λ (row : List ℕ). get_or row 0 0) (sym (setting_row i)) in
     let twice : 2 * (i + 1) ≡ 2 * i + 2 = omega arith in
     record {
       long = simp length-set k.long;
       is =
           rw twice
-          (two_more bytes (2 * i) (setting_at i).number (get_or values i 0) (omega (arith, k.long))
+          (two_more bytes (2 * i) (get_or (setting_at i) 0 0) (get_or values i 0) (omega (arith, k.long))
           ∙ rw (k.is, n) (sym (one_pair values i (omega arith))));
     }
 

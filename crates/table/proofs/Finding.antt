@@ -21,9 +21,8 @@ use denote.Param.Members.{Mut}
 use Rattle.std.proofs.lemmas.Bool.{cases_lt}
 use mathlib.Core.Logic.{◌⊎◌, inl, inr}
 use Rattle.std.specs.List.{position, position_or_len}
-use Rattle.table.specs.declared.Setting.{Setting}
 use Rattle.table.specs.declared.TheConstants.{SETTINGS}
-use Rattle.table.specs.Promises.{Place, Restores, row_of, TriggerAllowed, Takes, Allowed, Value, Locked}
+use Rattle.table.specs.Promises.{Place, Restores, TriggerAllowed, Takes, Allowed, Value, Locked}
 use Rattle.table.specs.Table.{locked_in, restored, value_of}
 use Rattle.table.specs.declared.Table.{Table}
 
@@ -38,23 +37,16 @@ many = refl
 -- ---- the settings and the rows
 
 -- The constant and the rows of the rules say the same.
-pub settings_rows : map row_of SETTINGS ≡ rows
+pub settings_rows : SETTINGS ≡ rows
 unfolding rows
 settings_rows = refl
 
--- The setting at a place, and its row.
-abbrev pub setting_at : ℕ → Setting
-setting_at i = get_or SETTINGS i (record { number = 0; lowest = 0; highest = 0; default = 0 })
+-- The row at a place.
+abbrev pub setting_at : ℕ → List ℕ
+setting_at i = get_or SETTINGS i []
 
-map_at : (settings : List Setting) (i : ℕ) (d : Setting) → i < length settings → get_or (map row_of settings) i [] ≡ row_of (get_or settings i d)
-map_at [] i d h = absurd (omega arith)
-map_at (s ∷ rest) zero d h = refl
-map_at (s ∷ rest) (suc i) d h = map_at rest i d (omega arith)
-
-pub setting_row : (i : ℕ) → i < parameter_count → get_or rows i [] ≡ row_of (setting_at i)
-setting_row i h =
-    subst (λ (table : List (List ℕ)). get_or table i [] ≡ row_of (setting_at i)) settings_rows
-    (map_at SETTINGS i (record { number = 0; lowest = 0; highest = 0; default = 0 }) h)
+pub setting_row : (i : ℕ) → get_or rows i [] ≡ setting_at i
+setting_row i = ap (λ (table : List (List ℕ)). get_or table i []) (sym settings_rows)
 
 -- ---- `place`
 
@@ -63,15 +55,15 @@ first_by true n m e = refl
 first_by false n m e = omega arith
 
 -- The first setting that has the number stands where the rows have it.
-pub first_place : (settings : List Setting) (number : ℕ) → position_or_len (λ s. eqb s.number number) settings ≡ place_in (map row_of settings) number
+pub first_place : (settings : List (List ℕ)) (number : ℕ) → position_or_len (λ s. eqb (get_or s 0 0) number) settings ≡ place_in settings number
 unfolding place_in
 first_place [] number = refl
 first_place (s ∷ rest) number =
-    first_by (eqb s.number number) (position_or_len (λ s. eqb s.number number) rest) (place_in (map row_of rest) number) (first_place rest number)
+    first_by (eqb (get_or s 0 0) number) (position_or_len (λ s. eqb (get_or s 0 0) number) rest) (place_in rest number) (first_place rest number)
 
-position_place : (settings : List Setting) (number : ℕ) →
-    position (λ s. eqb s.number number) settings
-    ≡ pick (ltb (place_in (map row_of settings) number) (length settings)) (Some (place_in (map row_of settings) number)) None
+position_place : (settings : List (List ℕ)) (number : ℕ) →
+    position (λ s. eqb (get_or s 0 0) number) settings
+    ≡ pick (ltb (place_in settings number) (length settings)) (Some (place_in settings number)) None
 position_place settings number = rw (first_place settings number) refl
 
 found_by : (d : Bool) (n at : ℕ) → Some at ≡ pick d (Some n) None → (d ≡ true) × (at ≡ n)
@@ -101,13 +93,13 @@ inside_by : (d : Bool) (n : ℕ) → (d ≡ true → n < parameter_count) → If
 inside_by true n k = k refl
 inside_by false n k = tt
 
-place_is : (number : ℕ) → position (λ s. eqb s.number number) SETTINGS ≡ pick (supported number) (Some (place_of number)) None
+place_is : (number : ℕ) → position (λ s. eqb (get_or s 0 0) number) SETTINGS ≡ pick (supported number) (Some (place_of number)) None
 unfolding supported
 place_is number =
-    subst (λ (table : List (List ℕ)). position (λ s. eqb s.number number) SETTINGS ≡ pick (ltb (place_in table number) 9) (Some (place_in table number)) None) settings_rows
+    subst (λ (table : List (List ℕ)). position (λ s. eqb (get_or s 0 0) number) SETTINGS ≡ pick (ltb (place_in table number) 9) (Some (place_in table number)) None) settings_rows
     (position_place SETTINGS number)
 
-pub placed : {number : ℕ} {r : Option ℕ} → r ≡ position (λ s. eqb s.number number) SETTINGS → Place number r
+pub placed : {number : ℕ} {r : Option ℕ} → r ≡ position (λ s. eqb (get_or s 0 0) number) SETTINGS → Place number r
 placed {number} {r} e =
     let f = e ∙ place_is number in
     record { is = f; inside = subst (λ (o : Option ℕ). IfSome o (λ at. at < parameter_count)) (sym f) (inside_by (supported number) (place_of number) (place_most number)) }
@@ -194,7 +186,7 @@ made_from g f ys v (suc n) i says made k a b =
 
 -- What is restored, place by place.
 pub restored_all : {locked : List Bool} {values next : List ℕ} → length next ≡ parameter_count →
-    ((i : ℕ) → i < parameter_count → get_or next i 0 ≡ pick (get_or locked i false) (get_or values i 0) (setting_at i).default) → Restores locked values next
+    ((i : ℕ) → i < parameter_count → get_or next i 0 ≡ pick (get_or locked i false) (get_or values i 0) (get_or (setting_at i) 3 0)) → Restores locked values next
 restored_all {locked} {values} {next} l k =
     let m = many in
     let long = length_restored locked values (defaults_of rows) ∙ (length_defaults rows ∙ many) in
@@ -204,25 +196,25 @@ restored_all {locked} {values} {next} l k =
           (λ i h.
           k i (omega arith)
           ∙ sym (restored_at locked values (defaults_of rows) i (let z = length_defaults rows in omega arith)
-          ∙ rw (default_at rows i (omega arith), setting_row i (omega arith)) refl));
+          ∙ rw (default_at rows i (omega arith), setting_row i) refl));
     }
 
 -- ---- `trigger_allowed`, `takes` and `allowed`
 
-takes_row : (s : Setting) (value : ℕ) → row_allows (row_of s) value ≡ both (both (leb s.lowest value) (leb value s.highest)) (either (not (eqb s.number 0x8A)) (trigger_allowed value))
+takes_row : (s : List ℕ) (value : ℕ) → row_allows s value ≡ both (both (leb (get_or s 1 0) value) (leb value (get_or s 2 0))) (either (not (eqb (get_or s 0 0) 0x8A)) (trigger_allowed value))
 unfolding row_allows range_allowed
 takes_row s value = refl
 
-pub takes_outside : {s : Setting} {value : ℕ} → (value < s.lowest) ⊎ ((s.lowest ≤ value) × (s.highest < value)) → Takes s value false
-takes_outside {s} {value} (inl h) = record { is = sym (takes_row s value ∙ simp (lt-leb s.lowest value h)) }
-takes_outside {s} {value} (inr h) = record { is = sym (takes_row s value ∙ simp (le-leb s.lowest value h.0, lt-leb value s.highest h.1)) }
+pub takes_outside : {s : List ℕ} {value : ℕ} → (value < (get_or s 1 0)) ⊎ (((get_or s 1 0) ≤ value) × ((get_or s 2 0) < value)) → Takes s value false
+takes_outside {s} {value} (inl h) = record { is = sym (takes_row s value ∙ simp (lt-leb (get_or s 1 0) value h)) }
+takes_outside {s} {value} (inr h) = record { is = sym (takes_row s value ∙ simp (le-leb (get_or s 1 0) value h.0, lt-leb value (get_or s 2 0) h.1)) }
 
-module _ {s : Setting} {value : ℕ} (l : s.lowest ≤ value) (h : value ≤ s.highest) where
-  pub takes_other : (s.number ≡ 0x8A → ⊥) → Takes s value (not (eqb s.number 0x8A))
-  takes_other d = record { is = sym (takes_row s value ∙ simp (le-leb s.lowest value l, le-leb value s.highest h, ne_eqb s.number 0x8A d)) }
+module _ {s : List ℕ} {value : ℕ} (l : (get_or s 1 0) ≤ value) (h : value ≤ (get_or s 2 0)) where
+  pub takes_other : ((get_or s 0 0) ≡ 0x8A → ⊥) → Takes s value (not (eqb (get_or s 0 0) 0x8A))
+  takes_other d = record { is = sym (takes_row s value ∙ simp (le-leb (get_or s 1 0) value l, le-leb value (get_or s 2 0) h, ne_eqb (get_or s 0 0) 0x8A d)) }
 
-  pub takes_trigger : {r : Bool} → s.number ≡ 0x8A → TriggerAllowed value r → Takes s value r
-  takes_trigger e t = record { is = t.is ∙ sym (takes_row s value ∙ simp (le-leb s.lowest value l, le-leb value s.highest h, eq-eqb s.number 0x8A e)) }
+  pub takes_trigger : {r : Bool} → (get_or s 0 0) ≡ 0x8A → TriggerAllowed value r → Takes s value r
+  takes_trigger e t = record { is = t.is ∙ sym (takes_row s value ∙ simp (le-leb (get_or s 1 0) value l, le-leb value (get_or s 2 0) h, eq-eqb (get_or s 0 0) 0x8A e)) }
 
 pub allowed_unknown : {number value : ℕ} → Place number None → Allowed number value false
 unfolding allowed
@@ -231,7 +223,7 @@ allowed_unknown p = record { is = simp (not_found p) }
 pub allowed_row : {number value at : ℕ} {r : Bool} → Place number (Some at) → Takes (setting_at at) value r → Allowed number value r
 unfolding allowed
 allowed_row {number} {value} {at} p a =
-    record { is = a.is ∙ rw (← setting_row at (p.inside), found_at p) (simp (found_supported p)) }
+    record { is = a.is ∙ rw (← setting_row at, found_at p) (simp (found_supported p)) }
 
 -- ---- `value`
 

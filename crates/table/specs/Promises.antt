@@ -6,7 +6,6 @@ use Rattle.packet.specs.declared.Refusal.TheVariants as refusal
 use Rattle.table.specs.Rows.{parameter_count, pairs_size, rows, place_of, supported, trigger_allowed, row_allows, allowed, defaults_of}
 use Rattle.table.specs.Table.{Values, Pair, Reading, wrong_length, pairs, read_pairs, send_length_allowed, request_length_allowed, locked_in, settable, all_settable, changed, Outcome, done, refused, set_pairs, defaults, restored, set_defaults, power_up, value_of, asked_for, numbers_of, pair_bytes, answer_data}
 use Rattle.table.specs.declared.Table.{Table}
-use Rattle.table.specs.declared.Setting.{Setting}
 
 -- What a table stands for.
 abbrev pub values_of : Table → Values
@@ -74,12 +73,8 @@ pub record Place (number : ℕ) (r : Option ℕ) : Type 0 where
   pub is : r ≡ pick (supported number) (Some (place_of number)) None
   pub inside : IfSome r (λ at. at < parameter_count)
 
--- A setting as a row of the rules.
-abbrev pub row_of : Setting → List ℕ
-row_of s = s.number ∷ s.lowest ∷ s.highest ∷ s.default ∷ []
-
-pub record Takes (s : Setting) (value : ℕ) (r : Bool) : Type 0 where
-  pub is : r ≡ row_allows (row_of s) value
+pub record Takes (row : List ℕ) (value : ℕ) (r : Bool) : Type 0 where
+  pub is : r ≡ row_allows row value
 
 pub record TriggerAllowed (value : ℕ) (r : Bool) : Type 0 where
   pub is : r ≡ trigger_allowed value

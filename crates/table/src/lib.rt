@@ -13,71 +13,17 @@ pub const PARAMETER_COUNT: usize = 9;
 // The longest data of an answer: the beep byte, and number and value of each parameter.
 pub const PAIRS_SIZE: usize = 1 + 2 * PARAMETER_COUNT;
 
-// What a parameter takes, and its house default.
-#[derive(Clone, Copy)]
-pub struct Setting {
-    pub number: u8,
-    pub lowest: u8,
-    pub highest: u8,
-    pub default: u8,
-}
-
-// The allowed settings, in rising order of their numbers.
-pub const SETTINGS: [Setting; PARAMETER_COUNT] = [
-    Setting {
-        number: 0x80,
-        lowest: 0,
-        highest: 1,
-        default: 0,
-    },
-    Setting {
-        number: 0x89,
-        lowest: 0,
-        highest: 99,
-        default: 10,
-    },
-    Setting {
-        number: 0x8A,
-        lowest: 0,
-        highest: 8,
-        default: 0,
-    },
-    Setting {
-        number: 0x9B,
-        lowest: 0,
-        highest: 99,
-        default: 20,
-    },
-    Setting {
-        number: 0x9C,
-        lowest: 1,
-        highest: 7,
-        default: 6,
-    },
-    Setting {
-        number: 0x9E,
-        lowest: 0,
-        highest: 4,
-        default: 4,
-    },
-    Setting {
-        number: 0x9F,
-        lowest: 0,
-        highest: 1,
-        default: 1,
-    },
-    Setting {
-        number: 0xED,
-        lowest: 0,
-        highest: 99,
-        default: 0,
-    },
-    Setting {
-        number: 0xEE,
-        lowest: 0,
-        highest: 1,
-        default: 1,
-    },
+// The allowed settings, a row for each parameter in rising order: its number, lowest, highest, house default.
+pub const SETTINGS: [[u8; 4]; PARAMETER_COUNT] = [
+    [0x80, 0, 1, 0],
+    [0x89, 0, 99, 10],
+    [0x8A, 0, 8, 0],
+    [0x9B, 0, 99, 20],
+    [0x9C, 1, 7, 6],
+    [0x9E, 0, 4, 4],
+    [0x9F, 0, 1, 1],
+    [0xED, 0, 99, 0],
+    [0xEE, 0, 1, 1],
 ];
 
 // In a list of numbers that are asked for: all of them.
@@ -123,7 +69,8 @@ fn restored(locked: [bool; PARAMETER_COUNT], values: [u8; PARAMETER_COUNT]) -> [
     array::from_fn(|i| if locked[i] {
         values[i]
     } else {
-        SETTINGS[i].default
+        let [.., default] = SETTINGS[i];
+        default
     })
 }
 
@@ -221,8 +168,8 @@ pub fn all_pairs(values: [u8; PARAMETER_COUNT]) -> [u8; 2 * PARAMETER_COUNT]
     ensures { AllPairs values result }
 {
     let mut pairs = [0; 2 * PARAMETER_COUNT];
-    for (i, setting) in SETTINGS.iter().enumerate() {
-        pairs[2 * i] = setting.number;
+    for (i, &[number, ..]) in SETTINGS.iter().enumerate() {
+        pairs[2 * i] = number;
         pairs[2 * i + 1] = values[i];
     }
     pairs
@@ -278,7 +225,7 @@ fn settable(locked: [bool; PARAMETER_COUNT], number: u8, value: u8) -> bool
     ensures { Settable locked number value result }
 {
     match place(number) {
-        Some(at) => !locked[at] && SETTINGS[at].takes(value),
+        Some(at) => !locked[at] && takes(SETTINGS[at], value),
         None => false,
     }
 }
@@ -298,21 +245,20 @@ pub fn allowed(number: u8, value: u8) -> bool
     ensures { Allowed number value result }
 {
     match place(number) {
-        Some(at) => SETTINGS[at].takes(value),
+        Some(at) => takes(SETTINGS[at], value),
         None => false,
     }
 }
 
-impl Setting {
-    // Whether the parameter takes the value.
-    fn takes(self, value: u8) -> bool
-        ensures { Takes self value result }
-    {
-        if value < self.lowest || self.highest < value {
-            return false;
-        }
-        self.number != TRIGGER || trigger_allowed(value)
+// Whether the parameter of a row takes the value.
+fn takes(row: [u8; 4], value: u8) -> bool
+    ensures { Takes row value result }
+{
+    let [number, lowest, highest, _] = row;
+    if value < lowest || highest < value {
+        return false;
     }
+    number != TRIGGER || trigger_allowed(value)
 }
 
 // 8Ah takes only 0, 2, 4, 7, 8.
@@ -326,5 +272,5 @@ fn trigger_allowed(value: u8) -> bool
 fn place(number: u8) -> Option<usize>
     ensures { Place number result }
 {
-    SETTINGS.iter().position(|setting| setting.number == number)
+    SETTINGS.iter().position(|&[first, ..]| first == number)
 }

@@ -11,4 +11,4 @@ use Rattle.table.proofs.restored.Goals as goal
 pub returns : goal.returns
 returns c =
     restored_all c.from_fn.ensures.items.long
-    (λ i h. made_from _ _ c.from_fn.result (λ k. pick (get_or c.args.locked k false) (get_or c.args.values k 0) (setting_at k).default) 9 0 (λ k y q w. search (rules, tests)) c.from_fn.ensures.items.each i (omega arith) (omega arith))
+    (λ i h. made_from _ _ c.from_fn.result (λ k. pick (get_or c.args.locked k false) (get_or c.args.values k 0) (get_or (setting_at k) 3 0)) 9 0 (λ k y q w. search (rules, tests)) c.from_fn.ensures.items.each i (omega arith) (omega arith))
