@@ -1,6 +1,6 @@
 -- What the reader of a form finds: one law for each `return`, and what its loops keep. Assumes nothing.
 use Prim.Native.Nat.{ℕ, zero, suc, ◌+◌, ◌*◌, ◌≤◌, ◌<◌}
-use mathlib.Core.Path.{◌≡◌, refl, sym, ap, subst, ◌∙◌}
+use mathlib.Core.Path.{◌≡◌, refl, sym, ap, ◌∙◌}
 use mathlib.Core.Bool.{Bool, true, false}
 use mathlib.Core.List.{List, [], ◌∷◌}
 use native.Mathlib.Numerals.{add-one}
@@ -19,7 +19,6 @@ use Rattle.table.specs.Rows.{parameter_count, rows, supported, row_allows, allow
 use Rattle.table.specs.Promises.{values_of, changed_of}
 use Rattle.table.specs.declared.Table.{Table}
 use Rattle.table.specs.declared.TheConstants.{SETTINGS}
-use Rattle.std.specs.Prelude.{map}
 use Rattle.std.specs.List.{list_all, zip}
 use Rattle.std.specs.Prelude.{Ok, Err}
 use Rattle.table.proofs.Finding.{many, place_at, setting_at, setting_row, settings_rows}

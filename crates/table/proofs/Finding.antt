@@ -13,7 +13,7 @@ use borrow.Author.Tests.{eq-eqb, ne_eqb, le-leb, lt-leb, eqb-true, ltb-true, ltb
 use Rattle.words.specs.Lists.{pick, both, either}
 use Rattle.words.proofs.Lists.{both_left, both_right}
 use Rattle.table.specs.Rows.{parameter_count, rows, place_in, place_of, supported, trigger_allowed, range_allowed, row_allows, allowed, defaults_of}
-use Rattle.std.specs.Prelude.{map, cond, not, Option, Some, None, IfSome}
+use Rattle.std.specs.Prelude.{cond, not, Option, Some, None, IfSome}
 use Rattle.std.proofs.lemmas.Grind.{same_number_lists}
 use Rattle.std.specs.Fn.{Called}
 use Rattle.std.specs.Array.{IsFromFnResultFrom}

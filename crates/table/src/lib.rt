@@ -14,6 +14,7 @@ pub const PARAMETER_COUNT: usize = 9;
 pub const PAIRS_SIZE: usize = 1 + 2 * PARAMETER_COUNT;
 
 // The allowed settings, a row for each parameter in rising order: its number, lowest, highest, house default.
+// stays: an array of arrays, the form that docs/PROTOCOL.md, section 18, names for it.
 pub const SETTINGS: [[u8; 4]; PARAMETER_COUNT] = [
     [0x80, 0, 1, 0],
     [0x89, 0, 99, 10],
