@@ -19,7 +19,7 @@ starting s = record { machine = s; waiting = None; ended = false }
 abbrev pub Acts : Type 0 → Type 0
 Acts S = S → Option ℕ → Token → Done (Reading S) ℕ
 
--- None token yet, or none at all.
+-- No token yet, or none at all.
 unfoldable pub skips : {S : Type 0} → S → Option ℕ → Done (Reading S) ℕ
 skips s waiting = record { next = record { machine = s; waiting = waiting; ended = false }; told = [] }
 
