@@ -15,7 +15,6 @@ use Rattle.packet.specs.declared.Refusal.{Refusal}
 use Rattle.packet.specs.declared.Refusal.TheVariants as refusal
 use Rattle.packet.specs.Promises as packet
 use Rattle.packet.specs.Sizes.{packet_size, answer_size, message_size}
-use Rattle.packet.specs.declared.Head.{Head}
 use Rattle.packet.specs.declared.Reply.{Reply}
 use Rattle.framer.specs.Promises as framing
 use Rattle.framer.specs.Halves as halves
@@ -29,8 +28,7 @@ use Rattle.hub.proofs.Blocks.{refused_block}
 use Rattle.hub.specs.declared.Hub.{Hub}
 use Rattle.hub.specs.declared.Taken.{Taken}
 use Rattle.framer.specs.declared.Going.{Going}
-use Rattle.framer.specs.declared.Going.TheVariants.{On, Woken, Left}
-use Rattle.packet.specs.Opcodes.{host}
+use Rattle.framer.specs.declared.Going.TheVariants.{On, Woken}
 use Rattle.sender.specs.Promises as sending
 use Rattle.sender.specs.declared.Heard.{Heard}
 use Rattle.sender.specs.declared.Sender.{Sender}
@@ -50,9 +48,9 @@ use Rattle.reader.specs.declared.Reader.{Reader}
 use Rattle.reader.specs.declared.Taken.{Taken as Commanded}
 use Rattle.reader.specs.declared.Started.{Started}
 use Rattle.motikhund.specs.Lent.{Need, at_least, Lacking, here, there, Enough, none, more, Asks, IfNamed, KeptUnless, Kept, Made}
-use Rattle.motikhund.specs.Control.{sender_control_size, reader_control_size, number_in, number_bytes, flag_in, flag_byte, framer_in, framer_bytes, hub_in, hub_bytes, sender_in, sender_bytes, reader_in, reader_bytes, FramerIn, PutsNumber, PutsFramer, HubIn, PutsHub, SenderIn, PutsSender, ReaderIn, PutsReader, Switches, PermanentChanged}
-use Rattle.motikhund.specs.Numbers.{is_event, is_reply, no_head, EventOf, HeardOf, HeardNumber, ReplyOf, RefusalNumber, result_number, ResultNumber, CheckedValues, FoundNumber, FoundValues, HubNumber, HubValues, OutcomeNumber, OutcomeValue, StartValues, is_refused, OutcomeRefused, waits_number, ReaderNumber, ReaderValues, settled_number}
-use Rattle.motikhund.specs.Promises.{PacketChecks, PacketBuilds, PacketAnswers, FramerHears, GoesOn, HubHears, HubTakesBlock, HubHearsBlock, Brings, Begins, SenderStarts, SenderHears, SenderWaits, SenderHeeds, FreshReader, ReaderStarts, ReaderTimesOut, ReaderHears, ReaderValue, ReaderLocked, ReaderSaves, ReaderLoads, ReaderSwitches}
+use Rattle.motikhund.specs.Control.{sender_control_size, reader_control_size, number_in, number_bytes, flag_in, framer_in, framer_bytes, hub_in, hub_bytes, sender_in, sender_bytes, reader_in, reader_bytes, FramerIn, PutsNumber, PutsFramer, HubIn, PutsHub, SenderIn, PutsSender, ReaderIn, PutsReader, PermanentChanged}
+use Rattle.motikhund.specs.Numbers.{is_event, is_reply, no_head, EventOf, HeardOf, ReplyOf, RefusalNumber, result_number, ResultNumber, FoundNumber, FoundValues, HubNumber, HubValues, OutcomeNumber, OutcomeValue, StartValues, is_refused, OutcomeRefused, ReaderNumber, ReaderValues, settled_number}
+use Rattle.motikhund.specs.Promises.{PacketAnswers, FramerHears, GoesOn, HubHears, HubHearsBlock, Brings, Begins, SenderStarts, SenderHears, FreshReader, ReaderStarts, ReaderTimesOut, ReaderHears, ReaderLoads}
 use Rattle.motikhund.proofs.Reading.{number_back, framer_back, hub_back, sender_back, reader_back}
 
 -- ---- what is lent
@@ -62,11 +60,7 @@ lacking_enough : {needs : List Need} → Lacking needs → Enough needs → ⊥
 lacking_enough (here h) (more l e) = omega arith
 lacking_enough (there k) (more l e) = lacking_enough k e
 
--- One of two, or of three, is too small.
-pub one_of_2 : {n m : ℕ} {s t : List ℕ} {needs : List Need} → (length s < n) ⊎ ((n ≤ length s) × (length t < m)) → Lacking (at_least n s ∷ at_least m t ∷ needs)
-one_of_2 (inl h) = here h
-one_of_2 (inr h) = there (here h.1)
-
+-- One of three is too small.
 pub one_of_3 : {n m k : ℕ} {s t u : List ℕ} {needs : List Need} →
     (length s < n) ⊎ (((n ≤ length s) × (length t < m)) ⊎ ((n ≤ length s) × (m ≤ length t) × (length u < k))) → Lacking (at_least n s ∷ at_least m t ∷ at_least k u ∷ needs)
 one_of_3 (inl h) = here h
@@ -149,10 +143,6 @@ begins values told = record { told = told.is; values_are = values.is }
 
 -- ---- calls that make a control value
 
-pub made_13 : {C : Type 0} {size : ℕ} {read : List ℕ → C} {bytes : C → List ℕ} {P : C → Type 0} {control : List ℕ} → Lacking (at_least size control ∷ []) →
-    Made size read bytes P control 13 control
-made_13 k = record { asks = asks_13 k (refl, refl) }
-
 made : {C : Type 0} {size : ℕ} {read : List ℕ → C} {bytes : C → List ℕ} {P : C → Type 0} {value : C} {control control' : List ℕ} → size ≤ length control → P value →
     Kept read bytes value control control' → Made size read bytes P control 0 control'
 made {value = value} l p k = record { asks = asks_enough (more l none) (record { made = value; promise = p; told = refl; kept = k }) }
@@ -179,16 +169,6 @@ reader_woken l before-is powers put = made l (rw before-is.is at powers) (reader
 
 -- ---- the packet
 
-pub packet_checks : {s head : List ℕ} {r : ℕ} {found : Result Head Refusal} → packet.Check s found → ResultNumber found 100 r → CheckedValues found head → PacketChecks s r head
-packet_checks {found = found} checks told values = record { found = found; checks = checks; told = told.is; values = values.is }
-
-pub packet_builds : {room carried room' : List ℕ} {opcode source status r size : ℕ} {made : Result ℕ Refusal} → packet.Build room opcode source status carried made room' →
-    ResultNumber made 101 r → packet.SizeOf made size → PacketBuilds room opcode source status carried r room' size
-packet_builds {made = made} builds told value = record { made = made; builds = builds; told = told.is; value = value.is }
-
-pub answer_13 : {room : List ℕ} {source n : ℕ} → length room < answer_size → PacketAnswers room source n 13 room 0
-answer_13 l = record { asks = asks_13 (here l) (refl, refl, refl) }
-
 pub answer_none : {room : List ℕ} {source n : ℕ} → answer_size ≤ length room → 256 < n → PacketAnswers room source n 0 room 0
 answer_none l m = record { asks = asks_enough (more l none) (passed (no_reply m) (refl, refl, refl)) }
 
@@ -205,9 +185,6 @@ packet_answers {made = made} l m reply answers told value =
     }
 
 -- ---- the framer
-
-pub framer_13 : {control line : List ℕ} {n : ℕ} → Lacking (at_least 9 control ∷ at_least packet_size line ∷ []) → FramerHears control line n 13 control line no_head
-framer_13 k = record { asks = asks_13 k (refl, refl, refl, refl) }
 
 pub framer_none : {control line : List ℕ} {n : ℕ} → 9 ≤ length control → packet_size ≤ length line → 257 < n → FramerHears control line n 0 control line no_head
 framer_none c l m = record { asks = asks_enough (more c (more l none)) (passed (no_event m) (refl, refl, refl, refl)) }
@@ -240,9 +217,6 @@ module _ {front line line' : List ℕ} {n : ℕ} {f : Framer} {e : Event} {going
 
   pub went_awake : {front' : List ℕ} {next : Framer} → going ≡ Woken → framing.Idle next → PutsFramer next front front' → GoesOn front line n true front' line'
   went_awake q idle put = record { going = going; goes = rw (before-is.is, event.is) at goes; told = rw q refl; front_is = rw q (framer_kept (rw idle.is at put)) }
-
-  pub was_left : going ≡ Left → GoesOn front line n false front line'
-  was_left q = record { going = going; goes = rw (before-is.is, event.is) at goes; told = rw q refl; front_is = rw q refl }
 
 -- ---- the hub
 
@@ -304,15 +278,7 @@ block_small (inl h) = block_13 (here h)
 block_small (inr (inl h)) = block_answer h.0 h.1
 block_small (inr (inr h)) = block_message h.0 h.1 h.2
 
-pub block_reads : {control line gather answer message bytes control' line' gather' answer' message' values : List ℕ} {r : ℕ} → 29 ≤ length control →
-    HubTakesBlock control line gather answer message bytes r control' line' gather' answer' message' values → HubHearsBlock control line gather answer message bytes r control' line' gather' answer' message' values
-block_reads c k = record { asks = asks_enough (more c none) k }
-
 -- ---- the sender
-
-pub start_13 : {control buffer room message : List ℕ} {code : ℕ} → Lacking (at_least sender_control_size control ∷ at_least 257 room ∷ []) →
-    SenderStarts control buffer room code message 13 control buffer room (0 ∷ 0 ∷ [])
-start_13 k = record { asks = asks_13 k (refl, refl, refl, refl, refl) }
 
 module _ {control buffer room message buffer' room' values : List ℕ} {code : ℕ} {s : Sender} {sent : Sending} {refused : Bool} (c : sender_control_size ≤ length control) (l : 257 ≤ length room)
     (before-is : SenderIn control s) (starts : sending.Starts s buffer room code message sent buffer' room') (values_are : StartValues sent.outcome values)
@@ -331,9 +297,6 @@ module _ {control buffer room message buffer' room' values : List ℕ} {code : �
       SenderStarts control buffer room code message r control' buffer' room' values
   sender_starts e put told = start_leaves (put_back (sym is-refused.is ∙ e) (sender_kept put)) told
 
-pub hear_13 : {control buffer room : List ℕ} {n : ℕ} → Lacking (at_least sender_control_size control ∷ at_least 257 room ∷ []) → SenderHears control buffer room n 13 control room 0
-hear_13 k = record { asks = asks_13 k (refl, refl, refl, refl) }
-
 pub sender_hears_lem : {control buffer room control' room' : List ℕ} {n r value : ℕ} {s : Sender} {h : Heard} {sent : Sending} →
     sender_control_size ≤ length control →
     257 ≤ length room →
@@ -347,22 +310,7 @@ pub sender_hears_lem : {control buffer room control' room' : List ℕ} {n r valu
 sender_hears_lem {sent = sent} c l before-is heard hears put value told =
     record { asks = asks_enough (more c (more l none)) (record { sent = sent; hears = rw (before-is.is, heard.is) at hears; brings = brings value told; kept = sender_kept put }) }
 
-pub waits_13 : {control : List ℕ} → Lacking (at_least sender_control_size control ∷ []) → SenderWaits control 13
-waits_13 k = record { asks = asks_13 k refl }
-
-pub sender_waits : {control : List ℕ} {s : Sender} {out : Bool} {r : ℕ} → sender_control_size ≤ length control → SenderIn control s → sending.Waits s out → r ≡ waits_number out →
-    SenderWaits control r
-sender_waits {out = out} c before-is waits e = record { asks = asks_enough (more c none) (record { out = out; waits = rw before-is.is at waits; told = e }) }
-
-pub sender_heeds : {opcode source status r : ℕ} {carried : List ℕ} {h : Heard} → sending.Heeds host opcode source status carried h → HeardNumber h r →
-    SenderHeeds opcode source status carried r
-sender_heeds {h = h} heeds told = record { heard = h; heeds = heeds; told = told.is }
-
 -- ---- the reader
-
-pub reader_start_13 : {control message copy bytes : List ℕ} {code : ℕ} → Lacking (at_least reader_control_size control ∷ at_least 257 copy ∷ []) →
-    ReaderStarts control message copy code bytes 13 control message copy (0 ∷ 0 ∷ [])
-reader_start_13 k = record { asks = asks_13 k (refl, refl, refl, refl, refl) }
 
 module _ {control message copy bytes message' copy' values : List ℕ} {code : ℕ} {before : Reader} {started : Started} {refused : Bool} (c : reader_control_size ≤ length control) (l : 257 ≤ length copy)
     (before-is : ReaderIn control before) (starts : reading.Starts before message copy code bytes started message' copy') (values_are : StartValues started.outcome values)
@@ -380,9 +328,6 @@ module _ {control message copy bytes message' copy' values : List ℕ} {code : �
   pub reader_starts : {control' : List ℕ} {r : ℕ} → refused ≡ false → PutsReader started.reader control control' → OutcomeNumber started.outcome r →
       ReaderStarts control message copy code bytes r control' message' copy' values
   reader_starts e put told = reader_start_leaves (put_back (sym is-refused.is ∙ e) (reader_kept put)) told
-
-pub time_out_13 : {control message copy : List ℕ} → Lacking (at_least reader_control_size control ∷ at_least 257 copy ∷ []) → ReaderTimesOut control message copy 13 control copy 0
-time_out_13 k = record { asks = asks_13 k (refl, refl, refl, refl) }
 
 pub reader_times_out : {control message copy control' copy' : List ℕ} {r value : ℕ} {before : Reader} {started : Started} →
     reader_control_size ≤ length control →
@@ -428,36 +373,7 @@ module _ {control line answers message answer copy : List ℕ} {n : ℕ} (c : re
             }));
       }
 
-pub value_13 : {control : List ℕ} {number : ℕ} → Lacking (at_least reader_control_size control ∷ []) → ReaderValue control number 13 0
-value_13 k = record { asks = asks_13 k (refl, refl) }
-
-pub reader_value : {control : List ℕ} {number shown value : ℕ} {before : Reader} → reader_control_size ≤ length control → ReaderIn control before →
-    settings.Value before.device.table number shown → value ≡ shown → ReaderValue control number 0 value
-reader_value c before-is shows same = record { asks = asks_enough (more c none) (record { shows = rw (before-is.is, ← same) at shows; told = refl }) }
-
-pub switches_13 : {control : List ℕ} → Lacking (at_least reader_control_size control ∷ []) → ReaderSwitches control 13 (0 ∷ 0 ∷ 0 ∷ 0 ∷ [])
-switches_13 k = record { asks = asks_13 k (refl, refl) }
-
-pub reader_switches : {control values : List ℕ} {before : Reader} → reader_control_size ≤ length control → ReaderIn control before → Switches before.device values → ReaderSwitches control 0 values
-reader_switches c before-is switches = record { asks = asks_enough (more c none) (refl, switches.is ∙ rw before-is.is refl) }
-
 -- ---- the saved set
-
-pub locked_13 : {control : List ℕ} {number : ℕ} → Lacking (at_least reader_control_size control ∷ []) → ReaderLocked control number 13 0
-locked_13 k = record { asks = asks_13 k (refl, refl) }
-
-pub reader_locked : {control : List ℕ} {number value : ℕ} {held : Bool} {before : Reader} → reader_control_size ≤ length control → ReaderIn control before →
-    settings.Locked before.device.table number held → value ≡ flag_byte held → ReaderLocked control number 0 value
-reader_locked {held = held} c before-is locked value =
-    record { asks = asks_enough (more c none) (record { held = held; locked = rw before-is.is at locked; value_is = value; told = refl }) }
-
-pub save_13 : {control room : List ℕ} → Lacking (at_least reader_control_size control ∷ []) → ReaderSaves control room 13 room 0
-save_13 k = record { asks = asks_13 k (refl, refl, refl) }
-
-pub reader_saves : {control room room' : List ℕ} {r size : ℕ} {made : Result ℕ Refusal} {before : Reader} → reader_control_size ≤ length control → ReaderIn control before →
-    saved.Saves before.device.table room made room' → packet.SizeOf made size → ResultNumber made 101 r → ReaderSaves control room r room' size
-reader_saves {made = made} c before-is saves size told =
-    record { asks = asks_enough (more c none) (record { made = made; saves = rw before-is.is at saves; told = told.is; value = size.is }) }
 
 pub settled_number_lem : (o : Settled) (taken : ℕ) → result_number (changed_of o) taken ≡ settled_number o taken
 unfolding changed_of

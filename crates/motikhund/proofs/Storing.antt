@@ -1,10 +1,10 @@
 -- What the stores of a control value leave: each part behind the one before it. Assumes nothing.
-use Prim.Native.Nat.{ℕ, suc, ◌-◌, ◌<◌, ◌≤◌}
+use Prim.Native.Nat.{ℕ, zero, suc, ◌-◌, ◌<◌, ◌≤◌}
 use mathlib.Core.Path.{◌≡◌, refl, ap, ◌∙◌}
-use mathlib.Core.Bool.{Bool}
+use mathlib.Core.Bool.{Bool, false}
 use mathlib.Core.List.{List, [], ◌∷◌, ◌++◌, append_assoc}
 use native.Mathlib.Omega.{arith}
-use lib.ListN.{length, take, drop, set, length-append}
+use lib.ListN.{length, get_or, take, drop, set, length-append}
 use Rattle.std.specs.Int.{w64, to_le_bytes}
 use Rattle.words.specs.Lists.{over, Over}
 use Rattle.words.proofs.Lists.{back, behind, length_over, over_behind, set_over_at}
@@ -143,6 +143,12 @@ sender_long s = refl
 pub flags_long : (bs : List Bool) → length (flag_bytes bs) ≡ length bs
 flags_long [] = refl
 flags_long (b ∷ bs) = ap suc (flags_long bs)
+
+-- The byte of a lock.
+pub flag_at : (locked : List Bool) (i : ℕ) → i < length locked → get_or (flag_bytes locked) i 0 ≡ flag_byte (get_or locked i false)
+flag_at [] i h = absurd (omega arith)
+flag_at (b ∷ bs) zero h = refl
+flag_at (b ∷ bs) (suc i) h = flag_at bs i (omega arith)
 
 pub table_long : (t : Table) → SizedTable t → length (table_bytes t) ≡ 27
 unfolding table_bytes

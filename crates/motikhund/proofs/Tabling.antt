@@ -2,15 +2,12 @@
 use Prim.Native.Nat.{ℕ, ◌≤◌}
 use mathlib.Core.Path.{◌≡◌, refl, sym, ap, ◌∙◌}
 use mathlib.Core.Bool.{Bool, true, false}
-use mathlib.Core.List.{List, [], ◌∷◌}
-use native.Mathlib.Omega.{arith}
+use mathlib.Core.List.{List}
 use lib.ListN.{length}
-use lib.Seq.{take_all}
 use Rattle.words.proofs.Lists.{never}
 use Rattle.packet.specs.declared.Refusal.TheVariants as refusal
-use Rattle.table.specs.Rows.{parameter_count}
 use Rattle.table.specs.Table.{Outcome as Settled, done, refused, read_pairs, set_pairs}
-use Rattle.table.specs.Promises.{values_of, table_of as table_of_values, changed_of, Sets, SetsDefaults, PowerUp}
+use Rattle.table.specs.Promises.{values_of, table_of as table_of_values, changed_of, Sets}
 use Rattle.table.specs.declared.Table.{Table}
 use Rattle.packet.specs.Refusals.{number_of}
 use Rattle.packet.specs.declared.Refusal.{Refusal}
@@ -18,18 +15,14 @@ use Rattle.std.proofs.Common.{Ok, Err}
 use Rattle.saved.specs.Promises as saved
 use Rattle.reader.specs.Promises as reading
 use Rattle.reader.specs.declared.Reader.{Reader}
-use Rattle.motikhund.specs.Lent.{at_least, Lacking, none, more}
-use Rattle.motikhund.specs.Control.{reader_control_size, reader_in, LocksIn, ReaderIn, PutsReader}
+use Rattle.motikhund.specs.Lent.{none, more}
+use Rattle.motikhund.specs.Control.{reader_control_size, reader_in, ReaderIn, PutsReader}
 use Rattle.motikhund.specs.Numbers.{RefusalNumber, settled_number}
-use Rattle.motikhund.specs.Tables.{table_of, with_values, struct_after, all_allowed, reader_after, TableOf, StructOf, WithValues, AllAllowed, SetsTable, DefaultsTable, PowersUpTable, TakesOut, PutsBack}
+use Rattle.motikhund.specs.Tables.{table_of, with_values, struct_after, all_allowed, reader_after, TableOf, WithValues, AllAllowed, SetsTable, PutsBack}
 use Rattle.motikhund.specs.declared.tables.MkTable.{MkTable}
-use Rattle.motikhund.proofs.Calls.{asks_13, asks_enough, reader_kept, alone, put_back}
+use Rattle.motikhund.proofs.Calls.{asks_enough, reader_kept, alone, put_back}
 
 -- ---- the table that a struct stands for
-
-pub table_of_lem : {k : MkTable} {locks : List Bool} → length k.locked ≡ parameter_count → LocksIn k.locked locks →
-    TableOf k (record { present = k.present; permanent = k.permanent; locked = locks })
-table_of_lem {k} l locks = record { is = rw (locks.is, take_all parameter_count k.locked (omega (arith, l))) refl }
 
 pub both_allowed : {k : MkTable} {present permanent : Bool} → saved.AllAllowed k.present present → present ≡ true → saved.AllAllowed k.permanent permanent → AllAllowed k permanent
 unfolding all_allowed
@@ -39,14 +32,7 @@ pub not_allowed : {k : MkTable} {present : Bool} → saved.AllAllowed k.present 
 unfolding all_allowed
 not_allowed p e = record { is = e ∙ sym (simp (sym p.is ∙ e)) }
 
--- ---- the calls by value
-
-module _ {k r : MkTable} {t next : Table} (stands : TableOf k t) (puts : WithValues k next r) where
-  pub defaults_set : SetsDefaults t next → DefaultsTable k r
-  defaults_set sets = record { is = puts.is ∙ rw (sets.is, stands.is) refl }
-
-  pub powered_up : PowerUp t next → PowersUpTable k r
-  powered_up powers = record { is = puts.is ∙ rw (powers.is, stands.is) refl }
+-- ---- the calls in place
 
 done_set : (k : MkTable) (o : Settled) {next : Table} → Ok next ≡ changed_of o → (0 ≡ settled_number o 0) × (with_values k (values_of next) ≡ struct_after k o)
 unfolding changed_of struct_after
@@ -70,15 +56,6 @@ module _ {k : MkTable} {t : Table} {pairs : List ℕ} {forever : Bool} (stands :
       record { told = number.is ∙ d.0; is = d.1 }
 
 -- ---- from a reader and back
-
-pub out_13 : {control : List ℕ} {k : MkTable} → Lacking (at_least reader_control_size control ∷ []) → TakesOut control k 13 k
-out_13 lacks = record { asks = asks_13 lacks (refl, refl) }
-
-pub taken_out : {control : List ℕ} {before : Reader} {k r : MkTable} → reader_control_size ≤ length control → ReaderIn control before → StructOf before.device.table r → TakesOut control k 0 r
-taken_out c before-is made = record { asks = asks_enough (more c none) (refl, made.is ∙ rw before-is.is refl) }
-
-pub back_13 : {control : List ℕ} {k : MkTable} → Lacking (at_least reader_control_size control ∷ []) → PutsBack control k 13 control
-back_13 lacks = record { asks = asks_13 lacks (refl, refl) }
 
 module _ {control : List ℕ} {k : MkTable} {sound : Bool} (c : reader_control_size ≤ length control) (allows : AllAllowed k sound) where
   pub back_refused : {r : ℕ} → sound ≡ false → RefusalNumber refusal.Setting r → PutsBack control k r control

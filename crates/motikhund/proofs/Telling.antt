@@ -1,6 +1,6 @@
 -- Events and answers as numbers: what each return of the code gives. Assumes nothing.
 use Prim.Native.Nat.{ℕ, ◌<◌, ◌≤◌}
-use mathlib.Core.Path.{◌≡◌, refl, sym, ap}
+use mathlib.Core.Path.{◌≡◌, refl, ap}
 use mathlib.Core.Bool.{Bool}
 use mathlib.Core.List.{List, [], ◌∷◌, ◌++◌}
 use native.Mathlib.Omega.{arith}
@@ -9,16 +9,13 @@ use borrow.Author.Tests.{lt-ltb, le-ltb, eq-eqb, ne_eqb}
 use Rattle.std.proofs.Common.{Some, None}
 use Rattle.packet.specs.declared.Reply.TheVariants as reply
 use Rattle.framer.specs.declared.Event.TheVariants.{Byte, CharacterGap, MessageGap}
-use Rattle.hub.specs.declared.Told.{Told}
-use Rattle.hub.specs.declared.Told.TheVariants as told
-use Rattle.commands.specs.declared.Device.{Device}
 use Rattle.reader.specs.declared.Told.{Told as Commanded}
 use Rattle.reader.specs.declared.Told.TheVariants as commanded
 use Rattle.sender.specs.declared.Outcome.{Outcome}
 use Rattle.sender.specs.declared.Heard.{Heard}
 use Rattle.sender.specs.declared.Heard.TheVariants as heard
-use Rattle.motikhund.specs.Control.{flag_byte, Switches}
-use Rattle.motikhund.specs.Numbers.{event_of, heard_of, heard_number, reply_of, hub_values, reader_row, reader_values, EventOf, HeardOf, ReplyOf, HubValues, OutcomeValue, OutcomeGap, StartValues, ReaderRow, ReaderValues}
+use Rattle.motikhund.specs.Control.{flag_byte}
+use Rattle.motikhund.specs.Numbers.{event_of, heard_of, heard_number, reply_of, reader_row, reader_values, EventOf, HeardOf, ReplyOf, OutcomeValue, ReaderRow, ReaderValues}
 
 -- ---- an event
 
@@ -70,19 +67,6 @@ pub reply_ack : {n : ℕ} → 256 ≤ n → ReplyOf n reply.Ack
 unfolding reply_of
 reply_ack {n} h = record { is = simp (le-ltb n 256 h) }
 
--- ---- what the hub told
-
-pub hub_bare : {t t' : Told} {answer : ℕ} → t ≡ t' → hub_values t' answer ≡ answer ∷ 0 ∷ 0 ∷ [] → HubValues t answer (answer ∷ 0 ∷ 0 ∷ [])
-hub_bare e k = record { is = rw e (sym k) }
-
-pub hub_message : {t : Told} {answer code count kind : ℕ} → t ≡ told.Message code count → kind ≡ code → HubValues t answer (answer ∷ kind ∷ count ∷ [])
-hub_message {answer = answer} {count = count} e k = record { is = rw (e, k) refl }
-
--- ---- what a start told
-
-pub start_values_lem : {o : Outcome} {gap : Bool} {value due : ℕ} → OutcomeValue o value → OutcomeGap o gap → due ≡ flag_byte gap → StartValues o (value ∷ due ∷ [])
-start_values_lem v g f = record { is = rw (v.is, f, g.is) refl }
-
 -- ---- what the reader told
 
 -- A row has three numbers.
@@ -98,9 +82,3 @@ pub reader_values_lem : {t : Commanded} {o : Outcome} {changed : Bool} {answer v
 unfolding reader_values
 reader_values_lem {t} {answer = answer} {value} {permanent} k v f =
     record { is = rw (k.is, ← v.is, ← f) (ap (λ (s : List ℕ). answer ∷ s) (three_of t (value ∷ permanent ∷ []))) }
-
--- ---- what is switched on
-
-pub switches_are : {d : Device} {scanning session aim led : ℕ} → scanning ≡ flag_byte d.switches.scanning → session ≡ flag_byte d.switches.session → aim ≡ flag_byte d.switches.aim → led ≡ flag_byte d.switches.led →
-    Switches d (scanning ∷ session ∷ aim ∷ led ∷ [])
-switches_are e s a l = record { is = rw (e, s, a, l) refl }

@@ -7,7 +7,7 @@ use mathlib.Core.List.{List, [], ◌∷◌, ◌++◌}
 use native.Mathlib.Omega.{arith}
 use lib.Dec.{eqb, ltb}
 use lib.ListN.{length, get_or, take, drop, length-take, length-drop}
-use borrow.Author.Tests.{eq-eqb, ne_eqb, lt-ltb, le-ltb, le-leb}
+use borrow.Author.Tests.{ne_eqb, lt-ltb, le-ltb, le-leb}
 use Rattle.words.specs.Lists.{pick, over}
 use Rattle.words.proofs.Lists.{never, over_over, length_over, back}
 use Rattle.packet.specs.Refusals.{number_of}
@@ -53,26 +53,6 @@ hub_leaves told.Added k = record { is = k.is }
 hub_leaves told.Repeated k = record { is = k.is }
 hub_leaves (told.Message code count) k = record { is = k.is }
 hub_leaves (told.Refused r) k = let m = number_most r in record { is = k.is ∙ simp (ne_eqb (number_of r) 112 (λ z. omega arith)) }
-
--- One law for each answer of the small functions.
-pub names_message : {before number : ℕ} → number ≡ 112 → NamesNumber before number number
-names_message {number = number} e = record { is = simp (eq-eqb number 112 e) }
-
-pub names_nothing : {before number : ℕ} → number ≡ 0 → NamesNumber before number before
-names_nothing {number = number} e = record { is = simp (ne_eqb number 112 (λ z. omega arith), eq-eqb number 0 e) }
-
-module _ {before number : ℕ} (message : number ≡ 112 → ⊥) where
-  pub names_low : (number ≡ 0 → ⊥) → number < 3 → NamesNumber before number number
-  names_low some l = record { is = simp (ne_eqb number 112 message, ne_eqb number 0 some, lt-ltb number 3 l) }
-
-  pub names_other : 3 ≤ number → NamesNumber before number before
-  names_other l = record { is = simp (ne_eqb number 112 message, ne_eqb number 0 (λ z. omega arith), le-ltb number 3 l) }
-
-pub leaves_message : {number room : ℕ} → number ≡ 112 → LeavesNumber number room true
-leaves_message {number} e = record { is = simp (eq-eqb number 112 e) }
-
-pub leaves_other : {number room : ℕ} → (number ≡ 112 → ⊥) → LeavesNumber number room (ltb room hub_answer_size)
-leaves_other {number} m = record { is = simp (ne_eqb number 112 m) }
 
 pub carries_bytes : {control line bytes control' line' : List ℕ} {hub : Hub} {r : TakenIn} → HubIn control hub → TakesIn hub.line line bytes r line' →
     PutsHub (record { line = r.halves; gathering = hub.gathering }) control control' → CarriesBytes control line bytes r.count control' line'

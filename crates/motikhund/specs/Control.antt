@@ -13,7 +13,7 @@ use Rattle.table.specs.declared.Table.{Table}
 use Rattle.commands.specs.declared.Device.{Device}
 use Rattle.reader.specs.declared.Reader.{Reader}
 
--- ---- sizes, part by part
+-- ---- sizes, part by part. A part begins where those before it end, so a size is also a place.
 
 abbrev pub number_size : ℕ
 number_size = 8
@@ -28,23 +28,53 @@ going_size = framer_control_size + 1
 abbrev pub halves_size : ℕ
 halves_size = going_size + number_size
 
+-- Of what is gathered: barred, begun and the code, before the count.
+abbrev pub gathering_front : ℕ
+gathering_front = 3
+
 abbrev pub gathering_size : ℕ
-gathering_size = 3 + number_size
+gathering_size = gathering_front + number_size
 
 abbrev pub hub_control_size : ℕ
 hub_control_size = halves_size + gathering_size
 
+-- Of a sender: three flags and the code, before the five numbers.
+abbrev pub sender_front : ℕ
+sender_front = 4
+
+abbrev pub sender_at : ℕ
+sender_at = sender_front + number_size
+
+abbrev pub sender_piece : ℕ
+sender_piece = sender_at + number_size
+
+abbrev pub sender_resends : ℕ
+sender_resends = sender_piece + number_size
+
+abbrev pub sender_copies : ℕ
+sender_copies = sender_resends + number_size
+
 abbrev pub sender_control_size : ℕ
-sender_control_size = 4 + 5 * number_size
+sender_control_size = sender_copies + number_size
+
+abbrev pub values_size : ℕ
+values_size = 2 * parameter_count
 
 abbrev pub table_size : ℕ
-table_size = 3 * parameter_count
+table_size = values_size + parameter_count
 
 abbrev pub device_size : ℕ
 device_size = table_size + 4
 
+-- Of a reader: its line and how long the last answer was, before the device.
+abbrev pub reader_front : ℕ
+reader_front = halves_size + number_size
+
+abbrev pub reader_sender : ℕ
+reader_sender = reader_front + device_size
+
 abbrev pub reader_control_size : ℕ
-reader_control_size = halves_size + number_size + device_size + sender_control_size
+reader_control_size = reader_sender + sender_control_size
 
 -- ---- numbers and flags
 
@@ -67,13 +97,13 @@ flag_byte b = from_bool b
 -- ---- the framer: 0 to 7 count, 8 deaf; over two halves: 9 second, 10 to 17 last
 
 unfoldable pub framer_in : List ℕ → Framer
-framer_in s = record { count = number_in s; deaf = flag_in s 8 }
+framer_in s = record { count = number_in s; deaf = flag_in s number_size }
 
 unfoldable pub framer_bytes : Framer → List ℕ
 framer_bytes f = number_bytes f.count ++ (flag_byte f.deaf ∷ [])
 
 unfoldable pub halves_in : List ℕ → Halves
-halves_in s = record { framer = framer_in s; second = flag_in s 9; last = number_in (drop 10 s) }
+halves_in s = record { framer = framer_in s; second = flag_in s framer_control_size; last = number_in (drop going_size s) }
 
 unfoldable pub halves_bytes : Halves → List ℕ
 halves_bytes h = framer_bytes h.framer ++ (flag_byte h.second ∷ number_bytes h.last)
@@ -81,13 +111,13 @@ halves_bytes h = framer_bytes h.framer ++ (flag_byte h.second ∷ number_bytes h
 -- ---- the hub: 0 to 17 its line, 18 barred, 19 begun, 20 code, 21 to 28 count
 
 unfoldable pub gathering_in : List ℕ → Gathering
-gathering_in s = record { barred = flag_in s 0; begun = flag_in s 1; code = get_or s 2 0; count = number_in (drop 3 s) }
+gathering_in s = record { barred = flag_in s 0; begun = flag_in s 1; code = get_or s 2 0; count = number_in (drop gathering_front s) }
 
 unfoldable pub gathering_bytes : Gathering → List ℕ
 gathering_bytes g = flag_byte g.barred ∷ flag_byte g.begun ∷ g.code ∷ number_bytes g.count
 
 unfoldable pub hub_in : List ℕ → Hub
-hub_in s = record { line = halves_in s; gathering = gathering_in (drop 18 s) }
+hub_in s = record { line = halves_in s; gathering = gathering_in (drop halves_size s) }
 
 unfoldable pub hub_bytes : Hub → List ℕ
 hub_bytes h = halves_bytes h.line ++ gathering_bytes h.gathering
@@ -99,11 +129,11 @@ sender_in s =
     record {
       out = flag_in s 0;
       code = get_or s 1 0;
-      length = number_in (drop 4 s);
-      at = number_in (drop 12 s);
-      size = number_in (drop 20 s);
-      resends = number_in (drop 28 s);
-      copies = number_in (drop 36 s);
+      length = number_in (drop sender_front s);
+      at = number_in (drop sender_at s);
+      size = number_in (drop sender_piece s);
+      resends = number_in (drop sender_resends s);
+      copies = number_in (drop sender_copies s);
       failed = flag_in s 2;
       delivered = flag_in s 3;
     }
@@ -130,14 +160,24 @@ table_in s =
     record {
       present = take parameter_count s;
       permanent = take parameter_count (drop parameter_count s);
-      locked = flags_in (take parameter_count (drop (2 * parameter_count) s));
+      locked = flags_in (take parameter_count (drop values_size s));
     }
 
 unfoldable pub table_bytes : Table → List ℕ
 table_bytes t = t.present ++ (t.permanent ++ flag_bytes t.locked)
 
 unfoldable pub device_in : List ℕ → Device
-device_in s = record { table = table_in s; switches = record { scanning = flag_in s 27; session = flag_in s 28; aim = flag_in s 29; led = flag_in s 30 } }
+device_in s =
+    record {
+      table = table_in s;
+      switches =
+          record {
+            scanning = flag_in s table_size;
+            session = flag_in s (table_size + 1);
+            aim = flag_in s (table_size + 2);
+            led = flag_in s (table_size + 3);
+          };
+    }
 
 -- What is switched on, as numbers: scanning, session, aim, LED.
 abbrev pub switch_values : Device → List ℕ
@@ -147,7 +187,7 @@ unfoldable pub device_bytes : Device → List ℕ
 device_bytes d = table_bytes d.table ++ switch_values d
 
 unfoldable pub reader_in : List ℕ → Reader
-reader_in s = record { line = halves_in s; last_answer = number_in (drop 18 s); device = device_in (drop 26 s); sender = sender_in (drop 57 s) }
+reader_in s = record { line = halves_in s; last_answer = number_in (drop halves_size s); device = device_in (drop reader_front s); sender = sender_in (drop reader_sender s) }
 
 unfoldable pub reader_bytes : Reader → List ℕ
 reader_bytes r = halves_bytes r.line ++ (number_bytes r.last_answer ++ (device_bytes r.device ++ sender_bytes r.sender))

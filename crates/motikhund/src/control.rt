@@ -57,14 +57,18 @@ const READER_SENDER: usize = READER_FRONT + DEVICE_SIZE;
 
 pub const READER_CONTROL_SIZE: usize = READER_SENDER + SENDER_CONTROL_SIZE;
 
-// ---- parts and numbers
+// ---- parts and numbers. stays a slice with its size asked of each function: as arrays, each part would be cut out by an Option that cannot be None.
 
+// Both stay loops: copy_from_slice is C's memmove, which the archive must not need, and where it is inlined it first compares the addresses,
+// with five times the code for a table.
 fn part<const N: usize>(s: &[u8]) -> [u8; N]
     requires { N ≤ length s.now }
     ensures { PartOf N s.now result }
 {
     let mut part = [0; N];
-    part.copy_from_slice(&s[..N]);
+    for i in 0..N {
+        part[i] = s[i];
+    }
     part
 }
 
@@ -72,7 +76,6 @@ fn put<const N: usize>(part: &[u8; N], room: &mut [u8])
     requires { N ≤ length room.old }
     ensures { Over part.now room.old room.new }
 {
-    // stays a loop: copy_from_slice, inlined here, first compares the addresses of part and room, and the code of a table is five times as long.
     for i in 0..N {
         room[i] = part[i];
     }
@@ -92,7 +95,7 @@ pub(crate) fn put_number(n: usize, room: &mut [u8])
     put(&n.to_le_bytes(), room);
 }
 
-// ---- the framer, alone and over two halves
+// ---- the framer, alone and over two halves. stays `== 1` at every flag: any other byte is a flag that does not hold.
 
 pub(crate) fn framer(s: &[u8]) -> Framer
     requires { framer_control_size ≤ length s.now }
@@ -226,7 +229,12 @@ pub(crate) fn locks(s: &[u8]) -> [bool; PARAMETER_COUNT]
 pub(crate) fn lock_bytes(locked: [bool; PARAMETER_COUNT]) -> [u8; PARAMETER_COUNT]
     ensures { LockBytes locked result }
 {
-    locked.map(u8::from)
+    // stays a loop: with map, mk_reader_hear takes 48 bytes more of stack and 160 of code.
+    let mut bytes = [0; PARAMETER_COUNT];
+    for i in 0..PARAMETER_COUNT {
+        bytes[i] = u8::from(locked[i]);
+    }
+    bytes
 }
 
 fn table(s: &[u8]) -> Table

@@ -1,6 +1,7 @@
 // The library for other languages: every machine over bytes and numbers. The caller keeps a control value as bytes (`control`),
 // what is told comes back as numbers (`numbers`), and no call trusts its caller: whatever is lent too small is number 13, with
 // nothing changed; a number that names no event or reply does nothing.
+// stays in numbers, with a value beside them, and calls of one shape stay apart: this is the C interface, which may not change.
 #![tactic(auto)]
 
 mod block;
@@ -18,7 +19,7 @@ use numbers::{PACKET, WRITTEN};
 use packet::Refusal;
 use tables::MkTable;
 
-// Lent room too small.
+// Lent room too small. stays `as`, as below: a constant calls no function.
 const ROOM: u32 = Refusal::Room as u32;
 // More bytes than a call takes.
 const LONG: u32 = Refusal::Long as u32;
@@ -484,7 +485,7 @@ pub extern "C" fn mk_reader_load(control: &mut [u8], form: &[u8]) -> u32
             control::put_reader(next, control);
             0
         }
-        Err(why) => numbers::refusal(why),
+        Err(unread) => numbers::refusal(unread),
     }
 }
 

