@@ -10,8 +10,7 @@ ghost use Rattle.motikhund.specs.Blocks.{ReadsBytes, CarriesBytes, NamesNumber, 
 use crate::numbers::MESSAGE;
 use hub::HUB_ANSWER_SIZE;
 
-// What a block brought, as `mk_hub_hear_block` tells it. stays a struct of five numbers: they are told as such, and an array or a tuple would
-// not say which is which.
+// What a block brought, in the five numbers that `mk_hub_hear_block` tells: an array or a tuple of them would not say which is which.
 #[derive(Clone, Copy)]
 pub(crate) struct Brought {
     pub(crate) told: u32,
@@ -40,7 +39,7 @@ pub(crate) fn read(
     let mut count = 0;
     let mut at = 0;
     let mut out = 0;
-    // stays a while: the place goes on by as many bytes as are carried, and is told.
+    // A while, since the place goes on by as many bytes as are carried, and is told.
     'packets: while at < bytes.len() {
         loop {
             at += carry(control, line, &bytes[at..]);

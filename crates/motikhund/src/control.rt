@@ -57,10 +57,12 @@ const READER_SENDER: usize = READER_FRONT + DEVICE_SIZE;
 
 pub const READER_CONTROL_SIZE: usize = READER_SENDER + SENDER_CONTROL_SIZE;
 
-// ---- parts and numbers. stays a slice with its size asked of each function: as arrays, each part would be cut out by an Option that cannot be None.
+// ---- parts and numbers
 
-// Both stay loops: copy_from_slice is C's memmove, which the archive must not need, and where it is inlined it first compares the addresses,
-// with five times the code for a table.
+// Here and below each function asks for its own size of a slice: as an array, each part would be cut out by an Option that is never None.
+
+// `part` and `put` are loops, since copy_from_slice is C's memmove, which the archive must not need; inlined, it first compares the addresses,
+// and the code of a table is five times as long.
 fn part<const N: usize>(s: &[u8]) -> [u8; N]
     requires { N ≤ length s.now }
     ensures { PartOf N s.now result }
@@ -95,7 +97,9 @@ pub(crate) fn put_number(n: usize, room: &mut [u8])
     put(&n.to_le_bytes(), room);
 }
 
-// ---- the framer, alone and over two halves. stays `== 1` at every flag: any other byte is a flag that does not hold.
+// ---- the framer, alone and over two halves
+
+// A flag is compared with 1 here and below: any other byte is one that does not hold.
 
 pub(crate) fn framer(s: &[u8]) -> Framer
     requires { framer_control_size ≤ length s.now }
@@ -229,7 +233,7 @@ pub(crate) fn locks(s: &[u8]) -> [bool; PARAMETER_COUNT]
 pub(crate) fn lock_bytes(locked: [bool; PARAMETER_COUNT]) -> [u8; PARAMETER_COUNT]
     ensures { LockBytes locked result }
 {
-    // stays a loop: with map, mk_reader_hear takes 48 bytes more of stack and 160 of code.
+    // A loop, since with map `mk_reader_hear` takes 48 bytes more of stack and 160 of code.
     let mut bytes = [0; PARAMETER_COUNT];
     for i in 0..PARAMETER_COUNT {
         bytes[i] = u8::from(locked[i]);

@@ -1,7 +1,7 @@
 // The library for other languages: every machine over bytes and numbers. The caller keeps a control value as bytes (`control`),
 // what is told comes back as numbers (`numbers`), and no call trusts its caller: whatever is lent too small is number 13, with
 // nothing changed; a number that names no event or reply does nothing.
-// stays in numbers, with a value beside them, and calls of one shape stay apart: this is the C interface, which may not change.
+// Numbers with a value beside them, and calls of one shape that are one for each control value, are the C interface, which may not change.
 #![tactic(auto)]
 
 mod block;
@@ -19,7 +19,7 @@ use numbers::{PACKET, WRITTEN};
 use packet::Refusal;
 use tables::MkTable;
 
-// Lent room too small. stays `as`, as below: a constant calls no function.
+// Lent room too small. The number is taken by `as`, as below: a constant calls no function.
 const ROOM: u32 = Refusal::Room as u32;
 // More bytes than a call takes.
 const LONG: u32 = Refusal::Long as u32;

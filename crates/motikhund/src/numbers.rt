@@ -1,5 +1,5 @@
 // Events and answers as numbers: specs/Numbers.antt has a line for each case of each enum.
-// stays numbers: they are the C interface's, and may not change.
+// The numbers are the C interface's, and may not change.
 ghost use Rattle.motikhund.specs.Numbers.{EventOf, HeardOf, HeardNumber, ReplyOf, RefusalNumber, ResultNumber, HeadValues, CheckedValues, FoundNumber, FoundValues, HubNumber, HubValues, OutcomeNumber, OutcomeValue, OutcomeGap, StartValues, OutcomeRefused, ReaderNumber, ReaderRow, ReaderValues};
 
 use framer::{Event, Found};
@@ -13,7 +13,9 @@ pub(crate) const WRITTEN: u32 = 101;
 // A message is complete.
 pub(crate) const MESSAGE: u32 = 112;
 
-// ---- what goes in. stays `as` in each: the range says that the number is a byte, and `try_from` would have a case that cannot be.
+// ---- what goes in
+
+// A byte is taken by `as` here and below: the range says that it is one, and `try_from` would have a case that cannot be.
 
 pub(crate) fn event(n: u32) -> Event
     ensures { EventOf n result }

@@ -6,7 +6,7 @@ use crate::control;
 use table::{PARAMETER_COUNT, Table};
 
 // Present and permanent values and locks in the order of the settings. A lock is a byte, 1 where the parameter is locked: any bytes are
-// some table. C calls it `mk_table`. stays three arrays: the C interface.
+// some table. C calls it `mk_table`, and the three arrays are its fields there.
 #[repr(C)]
 #[derive(Clone, Copy)]
 pub struct MkTable {
@@ -22,7 +22,7 @@ pub(crate) fn all_allowed(kept: MkTable) -> bool
     saved::all_allowed(kept.present) && saved::all_allowed(kept.permanent)
 }
 
-// The table that a struct stands for. stays in locals, as below: the prover does not follow an array from a field straight into a struct.
+// The table that a struct stands for. Its arrays go through locals, as below: the prover does not follow one from a field straight into a struct.
 pub(crate) fn table_of(kept: MkTable) -> Table
     ensures { TableOf kept result }
 {
