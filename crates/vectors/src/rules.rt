@@ -1,6 +1,6 @@
 // The rules at their edges (§2 to §4, §6, §7): names and numbers, short lengths, what building refuses and in which order, the
 // largest packet, and every value of a field.
-use crate::tally::{Tally, count, hex};
+use crate::tally::{Tally, count};
 use crate::trials::{
     Fields, answer, at_most, build_in, built, checked, cut, front, judged, refusal_of, say_fields,
     say_size, unwritten,
@@ -8,70 +8,70 @@ use crate::trials::{
 use packet::{Refusal, Reply};
 
 pub(crate) fn rules(rt: &impl Print, t: &mut Tally) {
-    names(rt, t);
-    refusals(rt, t);
+    lists(rt, t);
     lengths(rt, t);
-    order(rt, t);
+    for row in ORDER {
+        refused(rt, t, row);
+    }
     rooms(rt, t);
     largest(rt, t);
     fields(rt, t);
 }
 
-// The library's names for sources and opcodes, beside their numbers as §2, §7, §8 and §11 print them.
-fn names(rt: &impl Print, t: &mut Tally) {
-    let found = [
-        packet::HOST,
-        packet::READER,
-        packet::CMD_ACK,
-        packet::CMD_NAK,
-        packet::PARAM_SEND,
-        packet::PARAM_REQUEST,
-        packet::BEEP,
-        packet::LED_ON,
-        packet::LED_OFF,
-        packet::PARAM_DEFAULTS,
-        packet::START_SESSION,
-        packet::STOP_SESSION,
-        packet::SCAN_ENABLE,
-        packet::SCAN_DISABLE,
-        packet::AIM_ON,
-        packet::AIM_OFF,
-        packet::DECODE_DATA,
-    ];
-    let due = b"\x04\x00\xD0\xD1\xC6\xC7\xE6\xE7\xE8\xC8\xE4\xE5\xE9\xEA\xC5\xC4\xF3";
-    listed(rt, t, "NAMES", &found, due);
-}
-
-// The rows of the table of 'Refusal numbers', in its order.
-const REFUSALS: [Refusal; 14] = [
-    Refusal::Length,
-    Refusal::Checksum,
-    Refusal::Cut,
-    Refusal::Source,
-    Refusal::Status,
-    Refusal::Opcode,
-    Refusal::Data,
-    Refusal::Beep,
-    Refusal::Setting,
-    Refusal::Barred,
-    Refusal::Start,
-    Refusal::Form,
-    Refusal::Room,
-    Refusal::Long,
+// The library's names for sources and opcodes, and their numbers as §2, §7, §8 and §11 print them.
+const NAMES: [(u8, u8); 17] = [
+    (packet::HOST, 0x04),
+    (packet::READER, 0x00),
+    (packet::CMD_ACK, 0xD0),
+    (packet::CMD_NAK, 0xD1),
+    (packet::PARAM_SEND, 0xC6),
+    (packet::PARAM_REQUEST, 0xC7),
+    (packet::BEEP, 0xE6),
+    (packet::LED_ON, 0xE7),
+    (packet::LED_OFF, 0xE8),
+    (packet::PARAM_DEFAULTS, 0xC8),
+    (packet::START_SESSION, 0xE4),
+    (packet::STOP_SESSION, 0xE5),
+    (packet::SCAN_ENABLE, 0xE9),
+    (packet::SCAN_DISABLE, 0xEA),
+    (packet::AIM_ON, 0xC5),
+    (packet::AIM_OFF, 0xC4),
+    (packet::DECODE_DATA, 0xF3),
 ];
 
-// Its first column, then the cause of the NAK in the last, 0 for none.
-fn refusals(rt: &impl Print, t: &mut Tally) {
-    let numbers = b"\x01\x02\x03\x04\x05\x06\x07\x08\x09\x0A\x0B\x0C\x0D\x0F";
-    listed(rt, t, "NUMBERS", &REFUSALS.map(packet::number), numbers);
-    let causes = b"\x01\x01\x01\x02\x02\x02\x02\x06\x06\x06\x00\x00\x00\x00";
-    listed(rt, t, "CAUSES", &REFUSALS.map(packet::cause), causes);
+// The rows of the table of 'Refusal numbers', in its order: the refusal, its number, and the cause of the NAK, 0 for none.
+const REFUSALS: [(Refusal, u8, u8); 14] = [
+    (Refusal::Length, 1, 1),
+    (Refusal::Checksum, 2, 1),
+    (Refusal::Cut, 3, 1),
+    (Refusal::Source, 4, 2),
+    (Refusal::Status, 5, 2),
+    (Refusal::Opcode, 6, 2),
+    (Refusal::Data, 7, 2),
+    (Refusal::Beep, 8, 6),
+    (Refusal::Setting, 9, 6),
+    (Refusal::Barred, 10, 6),
+    (Refusal::Start, 11, 0),
+    (Refusal::Form, 12, 0),
+    (Refusal::Room, 13, 0),
+    (Refusal::Long, 15, 0),
+];
+
+fn lists(rt: &impl Print, t: &mut Tally) {
+    listed(rt, t, "NAMES", &NAMES);
+    let numbers = REFUSALS.map(|(refusal, number, _)| (packet::number(refusal), number));
+    listed(rt, t, "NUMBERS", &numbers);
+    let causes = REFUSALS.map(|(refusal, _, cause)| (packet::cause(refusal), cause));
+    listed(rt, t, "CAUSES", &causes);
 }
 
-fn listed(rt: &impl Print, t: &mut Tally, word: &str, found: &[u8], due: &[u8]) {
+// What is found in each row, beside what is due.
+fn listed(rt: &impl Print, t: &mut Tally, word: &str, rows: &[(u8, u8)]) {
     let _ = print!(rt; "{word}");
-    hex(rt, found);
-    t.compare(found == due);
+    for (found, _) in rows {
+        let _ = print!(rt; " {found:02X}");
+    }
+    t.compare(rows.iter().all(|(found, due)| found == due));
     t.end(rt);
 }
 
@@ -95,49 +95,59 @@ fn lengths(rt: &impl Print, t: &mut Tally) {
     front(rt, t, b"\x04\xD0\x04\x00\x28\xFF", Some(2));
 }
 
-// Building judges room, then source, then status, then data: the first row of each number is wrong in every later way too.
-fn order(rt: &impl Print, t: &mut Tally) {
-    refused(rt, t, 256, 0xC6, 1, 0xFF, 252, 13);
-    refused(rt, t, 256, 0xC6, 1, 0x00, 0, 13);
-    refused(rt, t, 256, 0xC6, 4, 0x00, 0, 13);
-    refused(rt, t, 0, 0xC6, 4, 0x00, 0, 13);
-    refused(rt, t, 257, 0xC6, 1, 0xFF, 252, 4);
-    refused(rt, t, 257, 0xC6, 1, 0x00, 0, 4);
-    refused(rt, t, 257, 0xC6, 4, 0xFF, 252, 5);
-    refused(rt, t, 257, 0xC6, 4, 0x02, 0, 5);
-    refused(rt, t, 257, 0xF3, 0, 0x04, 0, 5);
-    refused(rt, t, 257, 0xF3, 0, 0x10, 0, 5);
-    refused(rt, t, 257, 0xF3, 0, 0x20, 0, 5);
-    refused(rt, t, 257, 0xF3, 0, 0x40, 0, 5);
-    refused(rt, t, 257, 0xF3, 0, 0x80, 0, 5);
-    refused(rt, t, 257, 0xC6, 4, 0x00, 252, 7);
-    refused(rt, t, 300, 0xF3, 0, 0x02, 252, 7);
-}
-
-// Building n bytes FFh into a room of this size gives this refusal.
-fn refused(
-    rt: &impl Print,
-    t: &mut Tally,
+// Building n bytes FFh into a room of this size, and the refusal that is due.
+#[derive(Clone, Copy)]
+struct Row {
     size: usize,
-    opcode: u8,
-    source: u8,
-    status: u8,
+    fields: Fields,
     n: usize,
     due: u8,
-) {
-    let fields = Fields {
-        opcode,
-        source,
-        status,
+}
+
+// One to a line: the room's size, opcode, source, status, n, and the refusal.
+macro_rules! row {
+    ($size:literal, $opcode:literal, $source:literal, $status:literal, $n:literal, $due:literal) => {
+        Row {
+            size: $size,
+            fields: Fields {
+                opcode: $opcode,
+                source: $source,
+                status: $status,
+            },
+            n: $n,
+            due: $due,
+        }
     };
+}
+
+// Building judges room, then source, then status, then data: the first row of each number is wrong in every later way too.
+const ORDER: [Row; 15] = [
+    row!(256, 0xC6, 1, 0xFF, 252, 13),
+    row!(256, 0xC6, 1, 0x00, 0, 13),
+    row!(256, 0xC6, 4, 0x00, 0, 13),
+    row!(0, 0xC6, 4, 0x00, 0, 13),
+    row!(257, 0xC6, 1, 0xFF, 252, 4),
+    row!(257, 0xC6, 1, 0x00, 0, 4),
+    row!(257, 0xC6, 4, 0xFF, 252, 5),
+    row!(257, 0xC6, 4, 0x02, 0, 5),
+    row!(257, 0xF3, 0, 0x04, 0, 5),
+    row!(257, 0xF3, 0, 0x10, 0, 5),
+    row!(257, 0xF3, 0, 0x20, 0, 5),
+    row!(257, 0xF3, 0, 0x40, 0, 5),
+    row!(257, 0xF3, 0, 0x80, 0, 5),
+    row!(257, 0xC6, 4, 0x00, 252, 7),
+    row!(300, 0xF3, 0, 0x02, 252, 7),
+];
+
+fn refused(rt: &impl Print, t: &mut Tally, row: Row) {
     let full = [0xFF; 255];
-    let part = at_most(&full, n);
+    let part = at_most(&full, row.n);
     let mut buffer = unwritten();
-    let done = build_in(&mut buffer, size, fields, part);
-    let _ = print!(rt; "ROOM {size}");
-    say_fields(rt, fields);
+    let done = build_in(&mut buffer, row.size, row.fields, part);
+    let _ = print!(rt; "ROOM {}", row.size);
+    say_fields(rt, row.fields);
     say_size(rt, part.len());
-    judged(rt, t, done, &buffer, Some(due), b"");
+    judged(rt, t, done, &buffer, Err(row.due));
 }
 
 // A room may be larger than is asked for. An answer's source is judged as building judges it, after the room.
@@ -145,110 +155,82 @@ fn rooms(rt: &impl Print, t: &mut Tally) {
     roomed(rt, t, 257);
     roomed(rt, t, 258);
     roomed(rt, t, 300);
-    answer(rt, t, 0, 4, Reply::Ack, Some(13), b"");
-    answer(rt, t, 8, 4, Reply::Ack, None, b"\x04\xD0\x04\x00\xFF\x28");
+    answer(rt, t, 0, 4, Reply::Ack, Err(13));
+    answer(rt, t, 8, 4, Reply::Ack, Ok(b"\x04\xD0\x04\x00\xFF\x28"));
     let nak = b"\x05\xD1\x00\x00\x06\xFF\x24";
-    answer(rt, t, 300, 0, Reply::Nak(6), None, nak);
-    answer(rt, t, 6, 1, Reply::Ack, Some(13), b"");
-    answer(rt, t, 7, 1, Reply::Ack, Some(4), b"");
-    answer(rt, t, 7, 1, Reply::Nak(1), Some(4), b"");
+    answer(rt, t, 300, 0, Reply::Nak(6), Ok(nak));
+    answer(rt, t, 6, 1, Reply::Ack, Err(13));
+    answer(rt, t, 7, 1, Reply::Ack, Err(4));
+    answer(rt, t, 7, 1, Reply::Nak(1), Err(4));
 }
 
 // Building case 1 into a room of this size.
 fn roomed(rt: &impl Print, t: &mut Tally, size: usize) {
-    let fields = Fields {
-        opcode: 0xD0,
-        source: 4,
-        status: 0,
-    };
     let mut buffer = unwritten();
-    let done = build_in(&mut buffer, size, fields, b"");
+    let done = build_in(&mut buffer, size, Fields::new(0xD0, 4, 0), b"");
     let _ = print!(rt; "ROOM {size}");
-    judged(rt, t, done, &buffer, None, b"\x04\xD0\x04\x00\xFF\x28");
+    judged(rt, t, done, &buffer, Ok(b"\x04\xD0\x04\x00\xFF\x28"));
 }
 
 // 255 bytes and their checksum, all data FFh: the largest sum, 65,025, and the largest packet that building gives.
 fn largest(rt: &impl Print, t: &mut Tally) {
     let mut bytes = [0xFF; 257];
     bytes[255] = 0x01;
-    let full = Fields {
-        opcode: 0xFF,
-        source: 0xFF,
-        status: 0xFF,
-    };
-    checked(rt, t, &bytes, full, 251);
+    checked(rt, t, &bytes, Fields::new(0xFF, 0xFF, 0xFF), 251);
     bytes[2] = 0x04;
     bytes[3] = 0x09;
     bytes[255] = 0x03;
     bytes[256] = 0xF0;
-    let allowed = Fields {
-        source: 4,
-        status: 9,
-        ..full
-    };
+    let allowed = Fields::new(0xFF, 4, 9);
     checked(rt, t, &bytes, allowed, 251);
-    built(rt, t, &bytes, allowed, None, &bytes);
+    built(rt, t, &bytes, allowed, Ok(&bytes));
     cut(rt, t, &bytes);
 }
 
 // Every value of one field, the others right, and how many of them building allows.
 fn fields(rt: &impl Print, t: &mut Tally) {
-    every(rt, t, Field::Status(0xF3), 8);
-    every(rt, t, Field::Status(0xF2), 4);
-    every(rt, t, Field::Status(0xC6), 4);
-    every(rt, t, Field::Source, 2);
-    every(rt, t, Field::Opcode, 256);
-    every(rt, t, Field::Size, 252);
+    statuses(rt, t, 0xF3, 8);
+    statuses(rt, t, 0xF2, 4);
+    statuses(rt, t, 0xC6, 4);
+    let _ = print!(rt; "SOURCE");
+    every(rt, t, 2, |t, source| {
+        let fields = Fields::new(0xC6, source, 0);
+        allowed(t, fields, 0, source_due(source))
+    });
+    let _ = print!(rt; "OPCODE");
+    every(rt, t, 256, |t, opcode| {
+        let fields = Fields::new(opcode, 4, 0);
+        allowed(t, fields, 0, None)
+    });
+    let _ = print!(rt; "SIZE");
+    every(rt, t, 252, |t, n| {
+        let fields = Fields::new(0xF3, 0, 0);
+        allowed(t, fields, n, size_due(n))
+    });
 }
 
-// The status with one opcode, the source, the opcode, or the number of data bytes.
-#[derive(Clone, Copy)]
-enum Field {
-    Status(u8),
-    Source,
-    Opcode,
-    Size,
+// The status with one opcode: `packet::status_allowed` says the same as building.
+fn statuses(rt: &impl Print, t: &mut Tally, opcode: u8, due: usize) {
+    let _ = print!(rt; "STATUS {opcode:02X}");
+    every(rt, t, due, |t, status| {
+        let fields = Fields::new(opcode, 0, status);
+        let due = status_due(opcode, status);
+        t.compare(packet::status_allowed(opcode, status) == due.is_none());
+        allowed(t, fields, 0, due)
+    });
 }
 
-fn every(rt: &impl Print, t: &mut Tally, field: Field, due: usize) {
-    let mut allowed = 0;
+// Of how many values this is so, and of how many it should be; the line's first word is printed already.
+fn every<F: Fn(&mut Tally, u8) -> bool>(rt: &impl Print, t: &mut Tally, due: usize, is_allowed: F)
+    requires { F.IsAlwaysCallable is_allowed }
+{
+    let mut found = 0;
     for value in 0..=255 {
-        count(&mut allowed, tried(t, field, value));
+        count(&mut found, is_allowed(t, value));
     }
-    say_field(rt, field);
-    let _ = print!(rt; " ALLOWED {allowed}");
-    t.compare(allowed == due);
+    let _ = print!(rt; " ALLOWED {found}");
+    t.compare(found == due);
     t.end(rt);
-}
-
-fn say_field(rt: &impl Print, field: Field) {
-    let _ = match field {
-        Field::Status(opcode) => print!(rt; "STATUS {opcode:02X}"),
-        Field::Source => print!(rt; "SOURCE"),
-        Field::Opcode => print!(rt; "OPCODE"),
-        Field::Size => print!(rt; "SIZE"),
-    };
-}
-
-// Whether building allows the value.
-fn tried(t: &mut Tally, field: Field, value: u8) -> bool {
-    let (opcode, source, status, n, due) = match field {
-        Field::Status(opcode) => (opcode, 0, value, 0, status_due(opcode, value)),
-        Field::Source => (0xC6, value, 0, 0, source_due(value)),
-        Field::Opcode => (value, 4, 0, 0, None),
-        Field::Size => (0xF3, 0, 0, value, size_due(value)),
-    };
-    let fields = Fields {
-        opcode,
-        source,
-        status,
-    };
-    let allowed = value_tried(t, fields, n, due);
-    if let Field::Status(opcode) = field {
-        // `packet::status_allowed` says the same as building.
-        t.compare(packet::status_allowed(opcode, value) == due.is_none());
-    }
-    allowed
 }
 
 // Bits 0 and 3 are free, bit 1 is for DECODE_DATA.
@@ -274,8 +256,8 @@ fn size_due(n: u8) -> Option<u8> {
     }
 }
 
-// Building n bytes FFh: the refusal that is due, and a packet where there is none.
-fn value_tried(t: &mut Tally, fields: Fields, n: u8, due: Option<u8>) -> bool {
+// Whether building allows the fields with n bytes FFh: the refusal that is due, and a packet where there is none.
+fn allowed(t: &mut Tally, fields: Fields, n: u8, due: Option<u8>) -> bool {
     let full = [0xFF; 255];
     let part = at_most(&full, usize::from(n));
     let mut room = [0; packet::PACKET_SIZE];

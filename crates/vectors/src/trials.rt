@@ -1,5 +1,5 @@
 // What is tried with a vector: the check, building, damage, and the answers.
-// stays: a refusal that is due is its number in the rules' table, so that no name of the library can be wrong on both sides; None is a packet.
+// A refusal that is due is its number in the rules' table, so that no name of the library can be wrong on both sides.
 ghost use Rattle.std.specs.Prelude.{◌<◌};
 
 use crate::tally::{Tally, count, hex};
@@ -13,58 +13,31 @@ pub(crate) struct Fields {
     pub status: u8,
 }
 
-// A packet that the check finds with these fields and n bytes of data and that building gives again.
-pub(crate) fn worked(
-    rt: &impl Print,
-    t: &mut Tally,
-    bytes: &[u8],
-    opcode: u8,
-    source: u8,
-    status: u8,
-    n: usize,
-) {
-    let fields = Fields {
-        opcode,
-        source,
-        status,
-    };
-    tried(rt, t, bytes, fields, n, None, bytes);
+impl Fields {
+    pub(crate) fn new(opcode: u8, source: u8, status: u8) -> Fields {
+        Fields {
+            opcode,
+            source,
+            status,
+        }
+    }
 }
 
-// The same with a status that isn't allowed: the check doesn't judge it, building refuses it with 5.
-pub(crate) fn unbuilt(
-    rt: &impl Print,
-    t: &mut Tally,
-    bytes: &[u8],
-    opcode: u8,
-    source: u8,
-    status: u8,
-    n: usize,
-) {
-    let fields = Fields {
-        opcode,
-        source,
-        status,
-    };
-    tried(rt, t, bytes, fields, n, Some(5), b"");
-}
-
-// The packet is checked and built again, and then it is damaged.
-fn tried(
+// A packet that the check finds with these fields and n bytes of data, and what is due where it is built again. Then it is damaged.
+pub(crate) fn tried(
     rt: &impl Print,
     t: &mut Tally,
     bytes: &[u8],
     fields: Fields,
     n: usize,
-    due: Option<u8>,
-    written: &[u8],
+    due: Result<&[u8], u8>,
 ) {
     checked(rt, t, bytes, fields, n);
-    built(rt, t, bytes, fields, due, written);
+    built(rt, t, bytes, fields, due);
     damaged(rt, t, bytes);
 }
 
-// The check gives this refusal at the front of these bytes.
+// The check gives this refusal at the front of these bytes, or finds a packet.
 pub(crate) fn front(rt: &impl Print, t: &mut Tally, bytes: &[u8], due: Option<u8>) {
     let found = refusal_of(packet::check(bytes));
     let _ = print!(rt; "FRONT");
@@ -74,12 +47,9 @@ pub(crate) fn front(rt: &impl Print, t: &mut Tally, bytes: &[u8], due: Option<u8
     t.end(rt);
 }
 
-// The number of the refusal, where there is one.
+// The refusal's number; none is a packet.
 pub(crate) fn refusal_of<T: Copy>(judged: Result<T, Refusal>) -> Option<u8> {
-    match judged {
-        Ok(_) => None,
-        Err(refusal) => Some(packet::number(refusal)),
-    }
+    judged.err().map(packet::number)
 }
 
 fn say_refusal(rt: &impl Print, refusal: Option<u8>) {
@@ -113,14 +83,7 @@ fn headed(rt: &impl Print, t: &mut Tally, head: Head, due: Fields) {
         status,
         ..
     } = head;
-    say_fields(
-        rt,
-        Fields {
-            opcode,
-            source,
-            status,
-        },
-    );
+    say_fields(rt, Fields::new(opcode, source, status));
     t.compare(opcode == due.opcode);
     t.compare(source == due.source);
     t.compare(status == due.status);
@@ -138,7 +101,7 @@ fn parted(rt: &impl Print, t: &mut Tally, head: Head, bytes: &[u8], n: usize) {
 fn between(bytes: &[u8]) -> &[u8] {
     match bytes {
         [_, _, _, _, part @ .., _, _] => part,
-        _ => &bytes[..0],
+        _ => &[],
     }
 }
 
@@ -173,19 +136,18 @@ pub(crate) fn at_most(s: &[u8], n: usize) -> &[u8] {
     &s[..n.min(s.len())]
 }
 
-// Building from the fields and the data of `bytes` into a room of 257: this refusal, or these bytes.
+// Building from the fields and the data of `bytes` into a room of 257: these bytes, or this refusal.
 pub(crate) fn built(
     rt: &impl Print,
     t: &mut Tally,
     bytes: &[u8],
     fields: Fields,
-    due: Option<u8>,
-    written: &[u8],
+    due: Result<&[u8], u8>,
 ) {
     let mut buffer = unwritten();
     let done = build_in(&mut buffer, 257, fields, packet::data_part(bytes));
     let _ = print!(rt; "BUILD");
-    judged(rt, t, done, &buffer, due, written);
+    judged(rt, t, done, &buffer, due);
 }
 
 // The front of a buffer, so many bytes or all of them.
@@ -210,20 +172,20 @@ pub(crate) fn build_in(
     )
 }
 
-// What building did: its number, its size, and every byte of the buffer.
+// What building did: its refusal, its size, and every byte of the buffer. Where it refuses, nothing is written.
 pub(crate) fn judged(
     rt: &impl Print,
     t: &mut Tally,
     done: Result<usize, Refusal>,
     buffer: &Buffer,
-    due: Option<u8>,
-    written: &[u8],
+    due: Result<&[u8], u8>,
 ) {
     let refusal = refusal_of(done);
     let size = packet::size_of(done);
+    let written = due.unwrap_or(&[]);
     say_refusal(rt, refusal);
     hex(rt, at_most(buffer, size));
-    t.compare(refusal == due);
+    t.compare(refusal == due.err());
     t.compare(size == written.len());
     t.compare(stands(buffer, written));
     t.end(rt);
@@ -231,24 +193,23 @@ pub(crate) fn judged(
 
 // An answer into a room of 7 gives these bytes; a room of 6 is too small.
 pub(crate) fn answered(rt: &impl Print, t: &mut Tally, bytes: &[u8], source: u8, reply: Reply) {
-    answer(rt, t, 7, source, reply, None, bytes);
-    answer(rt, t, 6, source, reply, Some(13), b"");
+    answer(rt, t, 7, source, reply, Ok(bytes));
+    answer(rt, t, 6, source, reply, Err(13));
 }
 
-// An answer into a room of this size: this refusal, or these bytes.
+// An answer into a room of this size: these bytes, or this refusal.
 pub(crate) fn answer(
     rt: &impl Print,
     t: &mut Tally,
     size: usize,
     source: u8,
     reply: Reply,
-    due: Option<u8>,
-    written: &[u8],
+    due: Result<&[u8], u8>,
 ) {
     let mut buffer = unwritten();
     let done = packet::answer(room(&mut buffer, size), source, reply);
     let _ = print!(rt; "ANSWER {size}");
-    judged(rt, t, done, &buffer, due, written);
+    judged(rt, t, done, &buffer, due);
 }
 
 // A packet cut short, with more behind it, and with one byte changed.
@@ -334,14 +295,11 @@ fn changed_at(t: &mut Tally, found: &mut Found, buffer: &mut Buffer, n: usize, a
 
 // What is due for a packet of n bytes with this new byte. A first byte says another length; any other breaks the sum.
 fn spoilt(new: u8, at: usize, n: usize) -> u8 {
-    if at > 0 {
-        return 2;
+    if at == 0 && new < 4 {
+        1
+    } else if at == 0 && usize::from(new) + 2 > n {
+        3
+    } else {
+        2
     }
-    if new < 4 {
-        return 1;
-    }
-    if n < usize::from(new) + 2 {
-        return 3;
-    }
-    2
 }
