@@ -11,6 +11,7 @@ use borrow.Author.Tests.{le-leb, leb-true}
 use Rattle.words.specs.Lists.{pick, Bytes}
 use Rattle.words.specs.Machine.{Done}
 use Rattle.words.proofs.Lists.{bytes_take, bytes_drop}
+use Rattle.packet.specs.Packet.{head_in}
 use Rattle.packet.specs.Sizes.{body_size, packet_size}
 use Rattle.packet.specs.declared.Refusal.{Refusal}
 use Rattle.packet.specs.declared.Head.{Head}
@@ -104,6 +105,11 @@ pub record Arrived (r : Listened) (buffer : List ℕ) (d : Head) (s : Done Line 
   pub least : 4 ≤ d.length
   pub most : d.length ≤ body_size
   pub long : length (received_in r.halves buffer d.length) ≡ d.length
+  pub head_is : d ≡ head_in (received_in r.halves buffer d.length)
+
+headed : {body : List ℕ} {d : Head} {told : List Heard} → told ≡ packet body ∷ [] → found_of told ≡ Packet d → d ≡ head_in body
+unfolding found_of
+headed {body} {d} e q = let same : Packet (head_in body) ≡ Packet d = rw e at q in cc
 
 -- The half that receives, as the framer leaves it.
 abbrev half_after : Halves → List ℕ → Event → List ℕ
@@ -174,6 +180,7 @@ module _ {h : Halves} {buffer : List ℕ} {e : Event} {r : Listened} {buffer' : 
         least = least;
         most = most;
         long = rw there (length-take-le d.length (half_after h buffer e) (omega arith));
+        head_is = headed (rw (there, after) w.told_is) (found_told ∙ q);
       }
 
   -- A packet that was found and is accepted: nothing is begun in the other half, and the packet is kept.

@@ -60,6 +60,10 @@ pub record Begun (f : Framer) (r : ℕ) : Type 0 where
   pub is : r ≡ begun_of f
   pub most : r < packet_size
 
+-- A length below the limit, or 0.
+pub record Below (n limit r : ℕ) : Type 0 where
+  pub is : r ≡ pick (ltb n limit) n 0
+
 pub record Deaf (r : Framer) : Type 0 where
   pub is : r ≡ control_of deaf
 

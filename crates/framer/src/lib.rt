@@ -5,7 +5,7 @@ ghost use Rattle.std.specs.Prelude.{◌≤◌, ◌<◌, false, ◌≡◌, length
 ghost use Rattle.packet.specs.Sizes.{packet_size};
 ghost use Rattle.framer.specs.Halves.{IdleHalves, Listens, Received, Kept, AcceptsLast, Place, Last, GoesOn, Inside};
 ghost use Rattle.framer.specs.Silence.{TakesIn, LengthOf, InsideOf};
-ghost use Rattle.framer.specs.Promises.{Idle, Deaf, Ended, Begun, Gap, Unfinished, Frames};
+ghost use Rattle.framer.specs.Promises.{Idle, Deaf, Ended, Begun, Below, Gap, Unfinished, Frames};
 
 use packet::{CHECKSUM_SIZE, HEAD_SIZE, Head, PACKET_SIZE, Refusal};
 
@@ -23,7 +23,7 @@ pub enum Event {
 }
 
 // Whether all bytes are ignored until the next gap, and how many bytes of the packet begun stand in the line buffer.
-// stays: two fields, since an exported control value keeps each of its bytes, also one that no run leaves.
+// Two fields are kept apart: an exported control value keeps each of its bytes, also one that no run leaves.
 #[derive(Clone, Copy)]
 pub struct Framer {
     pub deaf: bool,
@@ -31,7 +31,7 @@ pub struct Framer {
 }
 
 // What an event ended: nothing, a packet that stands at the front of the line buffer, or a refusal.
-// stays: an enum of three cases, which as a Result in an Option would be no plainer.
+// Three outcomes: an Option of a Result would put nothing, a packet and a refusal on two levels.
 #[derive(Clone, Copy)]
 pub enum Found {
     Nothing,
@@ -81,15 +81,19 @@ pub fn hear(framer: Framer, line: &mut [u8], event: Event) -> Framed
     }
 }
 
-// The bytes begun. A count that the line buffer cannot have is 0.
+// The bytes begun.
 #[tactic(auto, unfolding(crate::specs::Promises::begun_of))]
 fn begun(framer: Framer) -> usize
     ensures { Begun framer result }
 {
-    if framer.count < PACKET_SIZE {
-        return framer.count;
-    }
-    0
+    below(framer.count, PACKET_SIZE)
+}
+
+// A length in a control value: one that cannot be is 0.
+fn below(length: usize, limit: usize) -> usize
+    ensures { Below length limit result }
+{
+    if length < limit { length } else { 0 }
 }
 
 // A gap ends the packet begun.
@@ -149,7 +153,7 @@ fn unfinished(refusal: Refusal, count: usize) -> Framed
 }
 
 // A framer over two halves of a line buffer: which half receives, and how long the last accepted packet in the other is.
-// stays: a length, 0 for none, since an exported control value keeps each of its bytes.
+// The last one's length is 0 for none: an exported control value keeps each of its bytes.
 #[derive(Clone, Copy)]
 pub struct Halves {
     pub framer: Framer,
@@ -179,7 +183,7 @@ pub fn listen(halves: Halves, buffer: &mut [u8; LINE_SIZE], event: Event) -> Lis
     ensures { Listens halves buffer.old event result buffer.new }
 {
     let from = place(halves.second);
-    // Lent as a slice: what comes back is then known to be bytes.
+    // Lent straight from the array, the prover would know nothing of the bytes that come back.
     let whole = &mut buffer[..];
     let Framed { framer, found } = hear(halves.framer, &mut whole[from..from + PACKET_SIZE], event);
     Listened {
@@ -189,7 +193,7 @@ pub fn listen(halves: Halves, buffer: &mut [u8; LINE_SIZE], event: Event) -> Lis
 }
 
 // What the short way did with an event.
-// stays: an enum of three cases, of which one would need a number of its own in an Option.
+// Three outcomes: an Option of a count could not tell a deaf framer that hears again.
 #[derive(Clone, Copy)]
 pub enum Going {
     // so many bytes are begun now; deaf or not, the framer is as it was
@@ -220,7 +224,7 @@ fn carry(framer: Framer, second: bool, buffer: &mut [u8; LINE_SIZE], b: u8) -> G
         return Going::On(0);
     }
     let from = place(second);
-    // Lent as a slice, as in `listen`.
+    // Lent as a slice for the reason that `listen` gives.
     let whole = &mut buffer[..];
     match inside(framer, &mut whole[from..from + PACKET_SIZE], b) {
         Some(count) => Going::On(count),
@@ -243,7 +247,7 @@ fn inside(framer: Framer, line: &mut [u8], b: u8) -> Option<usize>
             line[n] = b;
             return Some(n + 1);
         }
-        // A count that the line buffer cannot have is 0. It is tested last: `begun` before the length costs each byte three instructions.
+        // A count that cannot be is 0. It is tested last: `begun` before the length would cost each byte three instructions.
         if n < PACKET_SIZE {
             return None;
         }
@@ -282,7 +286,7 @@ pub struct TakenIn {
 pub fn take_in(halves: Halves, buffer: &mut [u8; LINE_SIZE], bytes: &[u8]) -> TakenIn
     ensures { TakesIn halves buffer.old bytes.now result buffer.new }
 {
-    if bytes.len() == 0 {
+    if bytes.is_empty() {
         return TakenIn { halves, count: 0 };
     }
     if halves.framer.deaf {
@@ -379,13 +383,10 @@ fn place(second: bool) -> usize
     0
 }
 
-// How many bytes the last accepted packet has; what it cannot have is none.
+// How many bytes the last accepted packet has.
 #[tactic(auto, unfolding(crate::specs::Halves::last_of))]
 fn last(halves: Halves) -> usize
     ensures { Last halves result }
 {
-    if halves.last <= BODY_SIZE {
-        return halves.last;
-    }
-    0
+    below(halves.last, BODY_SIZE + 1)
 }

@@ -6,16 +6,17 @@ use mathlib.Core.Bool.{Bool, true, false, not}
 use mathlib.Core.List.{List, [], ◌++◌}
 use native.Mathlib.Omega.{arith}
 use lib.Dec.{eqb, ltb}
-use lib.ListN.{length, get_or, take, drop, length-append, length-take, length-drop}
+use lib.ListN.{length, get_or, take, drop, length-append, length-take}
 use lib.Seq.{length-take-le}
 use borrow.Author.Tests.{eq-eqb, ne_eqb, lt-ltb, le-ltb}
 use Rattle.words.specs.Lists.{pick, over, over_at}
 use Rattle.words.specs.Machine.{Done}
 use Rattle.words.proofs.Lists.{over_nil, over_take, over_behind, rest_part}
 use Rattle.packet.specs.Opcodes.{reader, decode_data}
-use Rattle.packet.specs.Packet.{data_in, unmarked}
+use Rattle.packet.specs.Packet.{head_in, unmarked}
 use Rattle.packet.specs.Promises.{DataPart, Allowed, Resent, IsAnswer}
 use Rattle.packet.specs.Sizes.{message_size}
+use Rattle.packet.specs.declared.Head.{Head}
 use Rattle.packet.specs.declared.Refusal.TheVariants as refusal
 use Rattle.hub.specs.Joiner.{none, some, Joiner, Output, added, repeated, handed, acknowledged, refusing, type_in, piece_in, other_type, bytes_of, barring, joined, adding, join_step}
 use Rattle.hub.specs.Hub.{decode_step, packet_step}
@@ -104,77 +105,90 @@ hands_out_lem {code} {at} {piece} {gather} {message} {front} {part} h first seco
       message_is = put_in at (length piece) piece (front ++ drop at message) part refl second ∙ rw once (over_behind at (take at gather) piece message long);
     }
 
+-- ---- the head of a packet, by name
+
+module _ {h : Head} (body : List ℕ) (q : h ≡ head_in body) where
+  opcode_is : get_or body 1 0 ≡ h.opcode
+  unfolding head_in
+  opcode_is = sym (ap (λ (x : Head). x.opcode) q)
+
+  source_is : get_or body 2 0 ≡ h.source
+  unfolding head_in
+  source_is = sym (ap (λ (x : Head). x.source) q)
+
+  status_is : get_or body 3 0 ≡ h.status
+  unfolding head_in
+  status_is = sym (ap (λ (x : Head). x.status) q)
+
 -- ---- the joining itself
 
-module _ (g : Gathering) (last gather body carried : List ℕ) {t : Bool} (s : Sound g) (l : length gather ≡ message_size) (q : carried ≡ data_in body) (p : OtherType g (get_or carried 0 0) t) where
+module _ (g : Gathering) (last gather body : List ℕ) {code : ℕ} {piece : List ℕ} {t : Bool} (s : Sound g) (l : length gather ≡ message_size) (q : (code ≡ type_in body) × (piece ≡ piece_in body)) (p : OtherType g code t) where
   adding_is :
       adding (joiner_of g last gather) body
-      ≡ pick t (barring (joiner_of g last gather))
-      (pick (ltb message_size (g.count + (length carried - 1))) (barring (joiner_of g last gather)) (joined (joiner_of g last gather) body))
-  unfolding adding joiner_of type_in piece_in
+      ≡ pick t (barring (joiner_of g last gather)) (pick (ltb message_size (g.count + length piece)) (barring (joiner_of g last gather)) (joined (joiner_of g last gather) body))
+  unfolding adding joiner_of
   adding_is =
       let m = s.few in
-      simp (sym q, other_gathered g gather (get_or carried 0 0), sym p.is, bytes_gathered g gather s, length-take-le g.count gather (omega arith), length-drop 1 carried)
+      simp (sym q.0, sym q.1, other_gathered g gather code, sym p.is, bytes_gathered g gather s, length-take-le g.count gather (omega arith))
 
-  module _ (e : t ≡ false) (n : g.count + (length carried - 1) ≤ message_size) where
+  module _ (e : t ≡ false) (n : g.count + length piece ≤ message_size) where
     adding_joined : adding (joiner_of g last gather) body ≡ joined (joiner_of g last gather) body
-    adding_joined = adding_is ∙ simp (e, le-ltb message_size (g.count + (length carried - 1)) n)
+    adding_joined = adding_is ∙ simp (e, le-ltb message_size (g.count + length piece) n)
 
-    whole : bytes_of (gathered_of g gather) ++ piece_in body ≡ take g.count gather ++ drop 1 carried
-    unfolding piece_in
-    whole = rw (← q, bytes_gathered g gather s) refl
+    whole : bytes_of (gathered_of g gather) ++ piece_in body ≡ take g.count gather ++ piece
+    whole = rw (← q.1, bytes_gathered g gather s) refl
 
-    adding_last : get_or body 3 0 / 2 % 2 ≡ 0 → adding (joiner_of g last gather) body
-        ≡ record { next = record { barred = false; last = unmarked body; gathered = none }; told = acknowledged (handed (get_or carried 0 0) (take g.count gather ++ drop 1 carried)) }
-    unfolding joined joiner_of type_in
-    adding_last z = adding_joined ∙ simp (eq-eqb (get_or body 3 0 / 2 % 2) 0 z, whole, sym q)
+    module _ {h : Head} (w : h ≡ head_in body) where
+      adding_last : h.status / 2 % 2 ≡ 0 → adding (joiner_of g last gather) body
+          ≡ record { next = record { barred = false; last = unmarked body; gathered = none }; told = acknowledged (handed code (take g.count gather ++ piece)) }
+      unfolding joined joiner_of
+      adding_last z = adding_joined ∙ simp (status_is body w, eq-eqb (h.status / 2 % 2) 0 z, whole, sym q.0)
 
-    adding_more : (get_or body 3 0 / 2 % 2 ≡ 0 → ⊥) → adding (joiner_of g last gather) body
-        ≡ record { next = record { barred = false; last = unmarked body; gathered = some (get_or carried 0 0) (take g.count gather ++ drop 1 carried) }; told = acknowledged added }
-    unfolding joined joiner_of type_in
-    adding_more z = adding_joined ∙ simp (ne_eqb (get_or body 3 0 / 2 % 2) 0 z, whole, sym q)
+      adding_more : (h.status / 2 % 2 ≡ 0 → ⊥) → adding (joiner_of g last gather) body
+          ≡ record { next = record { barred = false; last = unmarked body; gathered = some code (take g.count gather ++ piece) }; told = acknowledged added }
+      unfolding joined joiner_of
+      adding_more z = adding_joined ∙ simp (status_is body w, ne_eqb (h.status / 2 % 2) 0 z, whole, sym q.0)
 
 length_whole : (g : Gathering) (gather piece : List ℕ) → Sound g → length gather ≡ message_size → length (take g.count gather ++ piece) ≡ g.count + length piece
 length_whole g gather piece s l = let m = s.few in simp (length-append, length-take) (omega arith)
 
-module _ {g : Gathering} {body carried gather message : List ℕ} {t : Bool} {r : Joined} (s : Sound g) (l : length gather ≡ message_size) (q : carried ≡ data_in body) (p : OtherType g (get_or carried 0 0) t) where
+module _ {g : Gathering} {body gather message : List ℕ} {code : ℕ} {piece : List ℕ} {t : Bool} {r : Joined} (s : Sound g) (l : length gather ≡ message_size) (q : (code ≡ type_in body) × (piece ≡ piece_in body)) (p : OtherType g code t) where
   pub adds_other : t ≡ true → Bars r → Adds g body gather message r gather message
-  adds_other e b = record { joins = λ last. bars_joins (joiner_of g last gather) (adding_is g last gather body carried s l q p ∙ simp e) b }
+  adds_other e b = record { joins = λ last. bars_joins (joiner_of g last gather) (adding_is g last gather body s l q p ∙ simp e) b }
 
-  pub adds_much : t ≡ false → message_size < g.count + (length carried - 1) → Bars r → Adds g body gather message r gather message
+  pub adds_much : t ≡ false → message_size < g.count + length piece → Bars r → Adds g body gather message r gather message
   adds_much e n b =
-      record { joins = λ last. bars_joins (joiner_of g last gather) (adding_is g last gather body carried s l q p ∙ simp (e, lt-ltb message_size (g.count + (length carried - 1)) n)) b }
+      record { joins = λ last. bars_joins (joiner_of g last gather) (adding_is g last gather body s l q p ∙ simp (e, lt-ltb message_size (g.count + length piece) n)) b }
 
-  pub adds_last : {message' : List ℕ} → t ≡ false → g.count + (length carried - 1) ≤ message_size → get_or body 3 0 / 2 % 2 ≡ 0 →
-      HandsOut (get_or carried 0 0) g.count (take (length carried - 1) (drop 1 carried)) gather message r message' → Adds g body gather message r gather message'
+  pub adds_last : {message' : List ℕ} {h : Head} → t ≡ false → g.count + length piece ≤ message_size → h ≡ head_in body → h.status / 2 % 2 ≡ 0 →
+      HandsOut code g.count piece gather message r message' → Adds g body gather message r gather message'
   unfolding told_of bytes_of message_of
-  adds_last e n z k =
+  adds_last e n w z k =
       record {
         joins = λ last.
-            rw (adding_last g last gather body carried s l q p e n z)
+            rw (adding_last g last gather body s l q p e n w z)
             (record {
-              told_is = rw (k.is, rest_part 1 carried, length_whole g gather (drop 1 carried) s l) refl;
+              told_is = rw (k.is, length_whole g gather piece s l) refl;
               gathering_is = rw k.is refl;
               gather_is = sym (over_nil gather);
-              message_is = rw (rest_part 1 carried) at k.message_is;
+              message_is = k.message_is;
             });
       }
 
-  pub adds_more : {gather' : List ℕ} → t ≡ false → g.count + (length carried - 1) ≤ message_size → (get_or body 3 0 / 2 % 2 ≡ 0 → ⊥) →
-      Keeps (get_or carried 0 0) g.count (take (length carried - 1) (drop 1 carried)) gather r gather' → Adds g body gather message r gather' message
+  pub adds_more : {gather' : List ℕ} {h : Head} → t ≡ false → g.count + length piece ≤ message_size → h ≡ head_in body → (h.status / 2 % 2 ≡ 0 → ⊥) →
+      Keeps code g.count piece gather r gather' → Adds g body gather message r gather' message
   unfolding told_of bytes_of message_of
-  adds_more e n z k =
+  adds_more e n w z k =
       let m = s.few in
       let front : length (take g.count gather) ≡ g.count = length-take-le g.count gather (omega arith) in
-      let put : over_at g.count (drop 1 carried) gather ≡ over (take g.count gather ++ drop 1 carried) gather =
-      rw (over_take g.count gather) at (over_behind g.count (take g.count gather) (drop 1 carried) gather front) in
+      let put : over_at g.count piece gather ≡ over (take g.count gather ++ piece) gather = rw (over_take g.count gather) at (over_behind g.count (take g.count gather) piece gather front) in
       record {
         joins = λ last.
-            rw (adding_more g last gather body carried s l q p e n z)
+            rw (adding_more g last gather body s l q p e n w z)
             (record {
               told_is = rw k.is refl;
-              gathering_is = rw (k.is, rest_part 1 carried, length_whole g gather (drop 1 carried) s l) refl;
-              gather_is = (rw (rest_part 1 carried) at k.gather_is) ∙ put;
+              gathering_is = rw (k.is, length_whole g gather piece s l) refl;
+              gather_is = k.gather_is ∙ put;
               message_is = sym (over_nil message);
             });
       }
@@ -201,6 +215,11 @@ module _ {g : Gathering} {last body gather message : List ℕ} {t : Bool} {r : J
 
 -- ---- the data
 
+-- The code type and the piece that it brings.
+pub data_opened : {body carried : List ℕ} → DataPart body carried → (get_or carried 0 0 ≡ type_in body) × (take (length carried - 1) (drop 1 carried) ≡ piece_in body)
+unfolding type_in piece_in
+data_opened {carried = carried} p = (ap (λ (x : List ℕ). get_or x 0 0) p.is, rest_part 1 carried ∙ ap (drop 1) p.is)
+
 module _ {g : Gathering} {body carried gather message : List ℕ} {r : Joined} (last : List ℕ) (s : Sound g) (p : DataPart body carried) where
   pub decodes_none : length gather ≡ message_size → length carried ≡ 0 → Unchanged g (told.Refused refusal.Data) r → Joins (decode_step (joiner_of g last gather) body) gather message r gather message
   unfolding decode_step told_of message_of
@@ -213,30 +232,30 @@ module _ {g : Gathering} {body carried gather message : List ℕ} {r : Joined} (
 
 -- ---- the packet
 
-module _ {g : Gathering} {gather message : List ℕ} {a : Bool} {r : Joined} (last body : List ℕ) (s : Sound g) (l : length gather ≡ message_size) (p : IsAnswer (get_or body 1 0) a) where
+module _ {g : Gathering} {gather message : List ℕ} {h : Head} {a : Bool} {r : Joined} (last body : List ℕ) (s : Sound g) (l : length gather ≡ message_size) (q : h ≡ head_in body) (p : IsAnswer h.opcode a) where
   pub judges_answer : a ≡ true → Unchanged g told.Nothing r → Joins (packet_step (joiner_of g last gather) body) gather message r gather message
   unfolding packet_step told_of message_of
-  judges_answer e u = still g last gather message [] s l (simp (sym p.is ∙ e)) refl refl u
+  judges_answer e u = still g last gather message [] s l (simp (opcode_is body q, sym p.is ∙ e)) refl refl u
 
-  pub judges_source : a ≡ false → (get_or body 2 0 ≡ reader → ⊥) → Unchanged g (told.Refused refusal.Source) r → Joins (packet_step (joiner_of g last gather) body) gather message r gather message
+  pub judges_source : a ≡ false → (h.source ≡ reader → ⊥) → Unchanged g (told.Refused refusal.Source) r → Joins (packet_step (joiner_of g last gather) body) gather message r gather message
   unfolding packet_step told_of message_of
-  judges_source e h u = still g last gather message (refusing refusal.Source) s l (simp (sym p.is ∙ e, ne_eqb (get_or body 2 0) reader h)) refl (refusing_hands_out refusal.Source) u
+  judges_source e k u = still g last gather message (refusing refusal.Source) s l (simp (opcode_is body q, source_is body q, status_is body q, sym p.is ∙ e, ne_eqb h.source reader k)) refl (refusing_hands_out refusal.Source) u
 
-  module _ {b : Bool} (e : a ≡ false) (f : get_or body 2 0 ≡ reader) (w : Allowed (get_or body 1 0) (get_or body 3 0) b) where
+  module _ {b : Bool} (e : a ≡ false) (f : h.source ≡ reader) (w : Allowed h.opcode h.status b) where
     pub judges_status : b ≡ false → Unchanged g (told.Refused refusal.Status) r → Joins (packet_step (joiner_of g last gather) body) gather message r gather message
     unfolding packet_step told_of message_of
-    judges_status h u = still g last gather message (refusing refusal.Status) s l (simp (sym p.is ∙ e, eq-eqb (get_or body 2 0) reader f, sym w.is ∙ h)) refl (refusing_hands_out refusal.Status) u
+    judges_status k u = still g last gather message (refusing refusal.Status) s l (simp (opcode_is body q, source_is body q, status_is body q, sym p.is ∙ e, eq-eqb h.source reader f, sym w.is ∙ k)) refl (refusing_hands_out refusal.Status) u
 
-    pub judges_opcode : b ≡ true → (get_or body 1 0 ≡ decode_data → ⊥) → Unchanged g (told.Refused refusal.Opcode) r → Joins (packet_step (joiner_of g last gather) body) gather message r gather message
+    pub judges_opcode : b ≡ true → (h.opcode ≡ decode_data → ⊥) → Unchanged g (told.Refused refusal.Opcode) r → Joins (packet_step (joiner_of g last gather) body) gather message r gather message
     unfolding packet_step told_of message_of
-    judges_opcode h o u =
+    judges_opcode k o u =
         still g last gather message (refusing refusal.Opcode) s l
-        (simp (sym p.is ∙ e, eq-eqb (get_or body 2 0) reader f, sym w.is ∙ h, ne_eqb (get_or body 1 0) decode_data o))
+        (simp (opcode_is body q, source_is body q, status_is body q, sym p.is ∙ e, eq-eqb h.source reader f, sym w.is ∙ k, ne_eqb h.opcode decode_data o))
         refl
         (refusing_hands_out refusal.Opcode)
         u
 
-    pub judges_decode : {gather' message' : List ℕ} → b ≡ true → get_or body 1 0 ≡ decode_data → Joins (decode_step (joiner_of g last gather) body) gather message r gather' message' →
+    pub judges_decode : {gather' message' : List ℕ} → b ≡ true → h.opcode ≡ decode_data → Joins (decode_step (joiner_of g last gather) body) gather message r gather' message' →
         Joins (packet_step (joiner_of g last gather) body) gather message r gather' message'
     unfolding packet_step
-    judges_decode h o k = becomes (simp (sym p.is ∙ e, eq-eqb (get_or body 2 0) reader f, sym w.is ∙ h, eq-eqb (get_or body 1 0) decode_data o)) k
+    judges_decode i o k = becomes (simp (opcode_is body q, source_is body q, status_is body q, sym p.is ∙ e, eq-eqb h.source reader f, sym w.is ∙ i, eq-eqb h.opcode decode_data o)) k

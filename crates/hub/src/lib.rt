@@ -3,15 +3,16 @@
 
 ghost use Rattle.std.specs.Prelude.{◌+◌, ◌≤◌, ◌≡◌, length, take};
 ghost use Rattle.packet.specs.Opcodes.{host};
-ghost use Rattle.packet.specs.Packet.{seal, data_in, reply_body};
+ghost use Rattle.packet.specs.Packet.{seal, head_in, reply_body};
 ghost use Rattle.packet.specs.Refusals.{nak_bytes};
-ghost use Rattle.packet.specs.Sizes.{head_size, body_size, message_size};
-ghost use Rattle.hub.specs.Joiner.{join_step};
+ghost use Rattle.packet.specs.Sizes.{message_size};
+ghost use Rattle.framer.specs.Halves.{received_in};
+ghost use Rattle.hub.specs.Joiner.{join_step, type_in, piece_in};
 ghost use Rattle.hub.specs.Hub.{decode_step, packet_step};
 ghost use Rattle.hub.specs.Promises.{hub_answer_size, Closed, SwitchedOn, Hears, NoRoom, Cleared, name_bytes, Writes, Steps, Stays, Receives, Settles, Accepts, Sound, Gatherings, Within, Unchanged, Bars, OtherType, Joins, Adds, Keeps, HandsOut, joiner_of};
 
 use framer::{Event, Found, Halves, LINE_SIZE, Listened};
-use packet::{DECODE_DATA, HOST, MESSAGE_SIZE, READER, Refusal, Reply};
+use packet::{DECODE_DATA, HOST, Head, MESSAGE_SIZE, READER, Refusal, Reply};
 
 // What every event asks of the answer room.
 pub const HUB_ANSWER_SIZE: usize = packet::ANSWER_SIZE;
@@ -20,7 +21,7 @@ pub const HUB_ANSWER_SIZE: usize = packet::ANSWER_SIZE;
 pub const BLOCK_SIZE: usize = 4096;
 
 // What is gathered of a message: whether one is begun, its code type, and how many bytes wait in the gather buffer.
-// stays: flags and numbers, since an exported control value keeps each of its bytes, also ones that no run leaves.
+// Flags and numbers are kept apart: an exported control value keeps each of its bytes, also ones that no run leaves.
 #[derive(Clone, Copy)]
 pub struct Gathering {
     pub barred: bool,
@@ -37,7 +38,7 @@ pub struct Hub {
 }
 
 // What an event brought.
-// stays: an enum of five cases, of which a Result would tell only the refusal from the rest.
+// Five outcomes: a Result would tell only the refusal from the rest.
 #[derive(Clone, Copy)]
 pub enum Told {
     Nothing,
@@ -69,9 +70,10 @@ struct Held {
 // A packet that came, and the last accepted one.
 #[derive(Clone, Copy)]
 struct Packets<'a> {
+    head: Head,
     body: &'a [u8],
     last: &'a [u8],
-    ghost headed: { head_size ≤ length body.now },
+    ghost headed: { head ≡ head_in body.now },
 }
 
 #[derive(Clone, Copy)]
@@ -197,14 +199,7 @@ fn step(
             sound(hub.gathering).gathering,
             Told::Refused(refusal),
         ),
-        Found::Packet(head) => received(
-            halves,
-            sound(hub.gathering),
-            head.length,
-            line,
-            gather,
-            message,
-        ),
+        Found::Packet(head) => received(halves, sound(hub.gathering), head, line, gather, message),
     }
 }
 
@@ -221,24 +216,25 @@ fn stay(halves: Halves, gathering: Gathering, told: Told) -> Stepped
     }
 }
 
-// A packet of n bytes stands in the half that receives. Where it is accepted it stays there, and the other half receives.
+// A packet with this head stands in the half that receives. Where it is accepted it stays there, and the other half receives.
 fn received(
     halves: Halves,
     held: Held,
-    n: usize,
+    head: Head,
     line: &[u8; LINE_SIZE],
     gather: &mut [u8; MESSAGE_SIZE],
     message: &mut [u8; MESSAGE_SIZE],
 ) -> Stepped
-    requires { (head_size ≤ n) × (n ≤ body_size) }
-    ensures { Receives halves held.gathering n line.now gather.old message.old result gather.new message.new }
+    requires { head ≡ head_in (received_in halves line.now head.length) }
+    ensures { Receives halves held.gathering head.length line.now gather.old message.old result gather.new message.new }
 {
     let packets = Packets {
-        body: framer::received(halves, line, n),
+        head,
+        body: framer::received(halves, line, head.length),
         last: framer::kept(halves, line),
     };
     let joined = judge(held, packets, gather, message);
-    settle(halves, n, joined)
+    settle(halves, head.length, joined)
 }
 
 // The control value after a packet.
@@ -246,10 +242,12 @@ fn settle(halves: Halves, n: usize, joined: Joined) -> Stepped
     ensures { Settles halves n joined result }
 {
     let Joined { gathering, told } = joined;
-    if accepted(told) {
-        return stay(framer::accept(halves, n), gathering, told);
-    }
-    stay(halves, gathering, told)
+    let line = if accepted(told) {
+        framer::accept(halves, n)
+    } else {
+        halves
+    };
+    stay(line, gathering, told)
 }
 
 fn accepted(told: Told) -> bool
@@ -276,17 +274,15 @@ fn sound(gathering: Gathering) -> Held
     }
 }
 
+// What the buffer cannot have is 0. The framer reads its two lengths by a function of its own, which is private there.
 fn within(count: usize) -> usize
     ensures { Within count result }
 {
-    if count <= MESSAGE_SIZE {
-        return count;
-    }
-    0
+    if count <= MESSAGE_SIZE { count } else { 0 }
 }
 
 // CMD_ACK and CMD_NAK do nothing; else 4 to 7 in rising order, then the joining.
-// stays: gather and message are two parameters here and below. In a struct lent by `&mut` each promise would name them by two steps, `rooms.old.gather.now`.
+// Gather and message are two parameters: in a struct lent by `&mut` (tried), the prover would be told nothing of how long they are.
 fn judge(
     held: Held,
     packets: Packets,
@@ -295,13 +291,16 @@ fn judge(
 ) -> Joined
     ensures { Joins (packet_step (joiner_of held.gathering packets.entry.last.now gather.old) packets.entry.body.now) gather.old message.old result gather.new message.new }
 {
-    let body = packets.body;
-    let opcode = body[1];
-    let status = body[3];
+    let Head {
+        opcode,
+        source,
+        status,
+        ..
+    } = packets.head;
     if packet::is_answer(opcode) {
         return unchanged(held.gathering, Told::Nothing);
     }
-    if body[2] != READER {
+    if source != READER {
         return unchanged(held.gathering, Told::Refused(Refusal::Source));
     }
     if !packet::status_allowed(opcode, status) {
@@ -313,6 +312,7 @@ fn judge(
     decode(held, packets, gather, message)
 }
 
+// Six answers are made by it: written out, the struct would take four lines at each.
 fn unchanged(gathering: Gathering, told: Told) -> Joined
     ensures { Unchanged gathering told result }
 {
@@ -328,22 +328,22 @@ fn decode(
 ) -> Joined
     ensures { Joins (decode_step (joiner_of held.gathering packets.entry.last.now gather.old) packets.entry.body.now) gather.old message.old result gather.new message.new }
 {
-    let data = packet::data_part(packets.body);
-    if data.len() == 0 {
+    let [code, piece @ ..] = packet::data_part(packets.body) else {
         return unchanged(held.gathering, Told::Refused(Refusal::Data));
-    }
-    join(held, packets, data, gather, message)
+    };
+    join(held, packets, *code, piece, gather, message)
 }
 
 // In this order: bar, repeat, type, total.
 fn join(
     held: Held,
     packets: Packets,
-    data: &[u8],
+    code: u8,
+    piece: &[u8],
     gather: &mut [u8; MESSAGE_SIZE],
     message: &mut [u8; MESSAGE_SIZE],
 ) -> Joined
-    requires { («data».now ≡ data_in packets.body.now) × (1 ≤ length «data».now) }
+    requires { (code ≡ type_in packets.body.now) × (piece.now ≡ piece_in packets.body.now) }
     ensures { Joins (join_step (joiner_of held.gathering packets.entry.last.now gather.old) packets.entry.body.now) gather.old message.old result gather.new message.new }
 {
     if held.gathering.barred {
@@ -352,7 +352,7 @@ fn join(
     if packet::resent_equal(packets.last, packets.body) {
         return unchanged(held.gathering, Told::Repeated);
     }
-    add(held, packets, data, gather, message)
+    add(held, packets, code, piece, gather, message)
 }
 
 // Refusal 10 drops what was gathered and bars the hub.
@@ -368,25 +368,22 @@ fn bar() -> Joined
 fn add(
     held: Held,
     packets: Packets,
-    data: &[u8],
+    code: u8,
+    piece: &[u8],
     gather: &mut [u8; MESSAGE_SIZE],
     message: &mut [u8; MESSAGE_SIZE],
 ) -> Joined
-    requires { («data».now ≡ data_in packets.body.now) × (1 ≤ length «data».now) }
+    requires { (code ≡ type_in packets.body.now) × (piece.now ≡ piece_in packets.body.now) }
     ensures { Adds held.gathering packets.entry.body.now gather.old message.old result gather.new message.new }
 {
-    let code = data[0];
     let at = held.gathering.count;
-    if other_type(held.gathering, code) {
+    if other_type(held.gathering, code) || piece.len() > MESSAGE_SIZE - at {
         return bar();
     }
-    if MESSAGE_SIZE - at < data.len() - 1 {
-        return bar();
+    if packets.head.status / 2 % 2 == 0 {
+        return hand_out(code, at, piece, gather, message);
     }
-    if packets.body[3] / 2 % 2 == 0 {
-        return hand_out(code, at, &data[1..], gather, message);
-    }
-    keep(code, at, &data[1..], gather)
+    keep(code, at, piece, gather)
 }
 
 // Another type inside a message.

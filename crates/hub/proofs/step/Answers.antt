@@ -4,7 +4,7 @@ use Rattle.framer.proofs.TwoHalves.{listened_packet}
 use Rattle.hub.proofs.step.Goals as goal
 
 pub received-requires : goal.received-requires
-received-requires c = let w = listened_packet c.listen-found.ensures c.in-Packet.is in (w.least, w.most)
+received-requires c = (listened_packet c.listen-found.ensures c.in-Packet.is).head_is
 
 pub returns-in-Nothing : goal.returns-in-Nothing
 returns-in-Nothing c = step_nothing c.listen-found.ensures c.in-Nothing.is c.stay.ensures
