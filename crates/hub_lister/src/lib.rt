@@ -22,6 +22,7 @@ const CODED_SIZE: usize = MESSAGE_SIZE + 1;
 pub const LINES_SIZE: usize = (3 * CODED_SIZE + 2) + (3 * HUB_ANSWER_SIZE + 2);
 
 // Where a listing stands: the hub, the first digit that waits for its second, and whether it has ended with `E`.
+// No digit waits once it has ended. The two stay fields of their own: they are public, and an enum of both would change what callers give and read.
 #[derive(Clone, Copy)]
 pub struct Lister {
     pub hub: Hub,
@@ -99,7 +100,8 @@ pub fn finish(lister: Lister, room: &mut [u8]) -> usize
 }
 
 // One character, and the lines due for it. What is wrong ends the listing.
-// stays: four functions ask for lines_size on the page; no type can carry that, as it holds before a character and not behind its lines.
+// The room that this and three other functions ask for is there before a character, and no longer behind its lines: a page type that carries
+// it would have to be made anew for each character, out of the test in `hear`, and given up at its first line.
 fn character(lister: Lister, buffers: &mut Buffers, character: u8, page: &mut Page) -> Lister
     requires { page.old.at + lines_size ≤ length page.old.room.now }
     ensures { Characters lister buffers.old character page.old result buffers.new page.new }

@@ -57,7 +57,7 @@ pub fn run_on_streams(rt: &(impl Input + Print), text: &mut [u8], room: &mut [u8
 }
 
 // The lines due for a text. The room may be full before the text ends.
-// stays: line and gather are handed on one by one, as the public calls take them, whose parameters may not change.
+// `hear` is public and takes the buffers one by one; a struct of them, made here, would be taken apart again for it.
 fn tell<W: Write>(
     writer: &mut W,
     lister: Lister,
@@ -71,7 +71,7 @@ fn tell<W: Write>(
 {
     let mut present = lister;
     let mut rest = text;
-    // stays: no for, since only a call's answer says how much of the rest it has taken.
+    // How much of the rest a call takes is known from its answer alone, so no `for` goes over the text.
     while !present.ended && !rest.is_empty() {
         let listed = hear(present, line, gather, rest, room);
         write(writer, room, listed.count);

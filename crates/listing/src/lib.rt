@@ -6,8 +6,7 @@ ghost use Rattle.std.specs.Prelude.{◌+◌, ◌*◌, ◌<◌, ◌≤◌, length
 ghost use Rattle.listing.specs.Lines.{hex_bytes, line_of, error_line};
 ghost use Rattle.listing.specs.Promises.{IsDigit, Takes, Signs, Joined, Capital, Spelt, PutsLine, PutsAnswer, WritesOn, Finishes, GoesOn};
 
-// What a character says, with the digit before it that waits for its second.
-// stays: six cases that each listing tells apart; an Option or a Result would only fold two of them into one and open it again.
+// What a character says, with the digit before it that waits for its second. Six cases, and each listing answers each of them differently.
 #[derive(Clone, Copy)]
 pub enum Token {
     Nothing,
@@ -162,8 +161,8 @@ pub fn put_error(page: &mut Page)
     put_line(b'E', b"", page);
 }
 
-// The line due at the end of a text, if one is: a digit that still waits stands alone. Answers how many bytes it has, at the room's front.
-// stays: 0 is the count of no bytes, and no sign that anything failed.
+// The line due at the end of a text, if one is: a digit that still waits stands alone. The answer is how many bytes stand at the room's
+// front, so it is a count, and 0 for an empty line.
 pub fn put_last(ended: bool, waiting: Option<u8>, room: &mut [u8]) -> usize
     ensures { Finishes ended waiting room.old result room.new }
 {
