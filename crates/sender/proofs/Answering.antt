@@ -51,6 +51,11 @@ pub going_out_by : {s m : Sender} {n : ℕ} (buffer : List ℕ) → Out s → le
     Moves s s.at s.size s.resends s.copies m → Out (record m { at = s.at + s.size; size = n; resends = 0 })
 going_out_by {s} buffer o long h k v = rw v.is (rw (going_on_lem s buffer k) (going_out s buffer o long h))
 
+pub resent_out_by : {s m : Sender} → Out s → s.resends < 2 → Moves s s.at s.size s.resends s.copies m → Out (record m { resends = s.resends + 1; copies = s.copies + 1 })
+resent_out_by o h v =
+    let few = o.few in
+    rw v.is (record { out = refl; fits = o.fits; inside = o.inside; small = o.small; sized = o.sized; tries = omega arith; few = omega arith })
+
 -- ---- a step with a message out
 
 -- A step that gives a copy: the next control value stands for the next state.

@@ -9,7 +9,7 @@ ghost use Rattle.std.specs.Int.{from_bool};
 ghost use Rattle.sender.specs.Pieces.{piece_size};
 ghost use Rattle.sender.specs.Promises.{Idle, Starts, Hears, Waits, Heeds, NextSize, Sounds, Sized, Placed, Made, Refuses, Moves, Ends, Fails, Due, Out, Fills, Presents, Begins, OutSteps};
 
-use packet::{DECODE_DATA, MESSAGE_SIZE, PACKET_SIZE, READER, Refusal};
+use packet::{DECODE_DATA, HEAD_SIZE, MESSAGE_SIZE, PACKET_SIZE, READER, Refusal};
 
 // What a piece holds: the data of a packet without the code type.
 const PIECE_SIZE: usize = packet::DATA_SIZE - 1;
@@ -20,8 +20,8 @@ const RESEND_LIMIT: usize = 2;
 
 // The sender's control value. `at` is where the present piece starts in the message buffer, `size` how many bytes it has;
 // `resends` counts those of the present packet, `copies` the marked copies of the message.
-// stays: these fields are the exported control bytes, which a call that does not move them gives back as they came, garbage too; `sound`
-// puts them in order where they are read.
+// The fields are the exported control bytes, which a call that does not move them gives back as they came, also ones that no run leaves;
+// `sound` puts them in order where they are read.
 #[derive(Clone, Copy)]
 pub struct Sender {
     pub length: usize,
@@ -37,8 +37,7 @@ pub struct Sender {
     pub delivered: bool,
 }
 
-// What the sender hears of the host.
-// stays: four things that differ in what follows, of which one carries a byte; an Option or a Result has two cases.
+// What the sender hears of the host. Each of the four cases has a consequence of its own, and one carries a byte.
 #[derive(Clone, Copy)]
 pub enum Heard {
     Ack,
@@ -49,7 +48,7 @@ pub enum Heard {
 
 // What a call brought: a copy of so many bytes in the room, with whether a message gap is due before it; or a message's end with
 // the number of its marked copies.
-// stays: five things that a call can come to; of these a refusal alone is an error, and it comes with a control value too.
+// Five outcomes, of which a refusal alone is an error; a Result would tell only it from the rest, and it comes with a control value too.
 #[derive(Clone, Copy)]
 pub enum Outcome {
     Nothing,
@@ -59,10 +58,18 @@ pub enum Outcome {
     Refused(Refusal),
 }
 
+// The control value after a call, and what the call brought. It is a struct of its own so that names say which of the two is read.
 #[derive(Clone, Copy)]
 pub struct Sending {
     pub sender: Sender,
     pub outcome: Outcome,
+}
+
+// A sender with a message out, as a run leaves it: the present piece is one of the message that stands in the buffer.
+#[derive(Clone, Copy)]
+struct Busy {
+    sender: Sender,
+    ghost out: { Out sender },
 }
 
 // A sender with nothing out, after a message that failed or not.
@@ -97,13 +104,15 @@ pub fn start(
         return refused(sender, Refusal::Room);
     };
     let now = sound(sender);
-    if MESSAGE_SIZE < message.len() || now.out {
+    if message.len() > MESSAGE_SIZE || now.out {
         return refused(sender, Refusal::Start);
     }
     begin(now, buffer, packet, code, message)
 }
 
 // One thing heard of the host.
+// Here and in what it calls a choice of a value is an early return too: `else` was tried, and cost a reader's event 16 bytes of stack, which
+// took it over its bar of 640.
 pub fn hear(sender: Sender, buffer: &[u8; MESSAGE_SIZE], room: &mut [u8], heard: Heard) -> Sending
     ensures { Hears sender buffer.now room.old heard result room.new }
 {
@@ -112,7 +121,7 @@ pub fn hear(sender: Sender, buffer: &[u8; MESSAGE_SIZE], room: &mut [u8], heard:
     };
     let now = sound(sender);
     if now.out {
-        return out_step(now, buffer, packet, heard);
+        return out_step(Busy { sender: now }, buffer, packet, heard);
     }
     Sending {
         sender: now,
@@ -132,7 +141,7 @@ pub fn waits(sender: Sender) -> bool
 pub fn heed(heeded: u8, opcode: u8, source: u8, status: u8, data: &[u8]) -> Heard
     ensures { Heeds heeded opcode source status «data».now result }
 {
-    if source != heeded || 1 < status {
+    if source != heeded || status > 1 {
         return Heard::Nothing;
     }
     match (opcode, data) {
@@ -155,16 +164,18 @@ fn begin(
 {
     let gap = gap_due(sender, buffer, code, message);
     words::copy(message, buffer);
-    let next = Sender {
-        out: true,
-        code,
-        length: message.len(),
-        size: next_size(&[], message),
-        ..idle(false)
+    let next = Busy {
+        sender: Sender {
+            out: true,
+            code,
+            length: message.len(),
+            size: next_size(&[], message),
+            ..idle(false)
+        },
     };
     let size = present(next, buffer, room, false);
     Sending {
-        sender: next,
+        sender: next.sender,
         outcome: Outcome::Copy { size, gap },
     }
 }
@@ -245,47 +256,48 @@ fn sized(left: usize, size: usize) -> bool
     if left <= PIECE_SIZE {
         return size == left;
     }
-    CUT_SIZE <= size && size <= PIECE_SIZE
+    (CUT_SIZE..=PIECE_SIZE).contains(&size)
 }
 
 // One step with a message out: NAK 1 resends as a time-out does, another cause fails at once.
 fn out_step(
-    sender: Sender,
+    busy: Busy,
     buffer: &[u8; MESSAGE_SIZE],
     room: &mut [u8; PACKET_SIZE],
     heard: Heard,
 ) -> Sending
-    requires { Out sender }
-    ensures { OutSteps sender buffer.now room.old heard result room.new }
+    ensures { OutSteps busy.sender buffer.now room.old heard result room.new }
 {
     match heard {
-        Heard::Ack => onward(sender, buffer, room),
-        Heard::Nak(cause) if cause != 1 => failed(sender),
-        Heard::TimeOut | Heard::Nak(_) => again(sender, buffer, room),
+        Heard::Ack => onward(busy, buffer, room),
+        Heard::Nak(cause) if cause != 1 => failed(busy.sender),
+        Heard::TimeOut | Heard::Nak(_) => again(busy, buffer, room),
         Heard::Nothing => Sending {
-            sender,
+            sender: busy.sender,
             outcome: Outcome::Nothing,
         },
     }
 }
 
 // ACK goes on to the next packet or reports delivered.
-fn onward(sender: Sender, buffer: &[u8; MESSAGE_SIZE], room: &mut [u8; PACKET_SIZE]) -> Sending
-    requires { Out sender }
-    ensures { OutSteps sender buffer.now room.old Heard.Ack result room.new }
+fn onward(busy: Busy, buffer: &[u8; MESSAGE_SIZE], room: &mut [u8; PACKET_SIZE]) -> Sending
+    ensures { OutSteps busy.sender buffer.now room.old Heard.Ack result room.new }
 {
+    let sender = busy.sender;
     let end = sender.at + sender.size;
     if end < sender.length {
         let size = next_size(&buffer[sender.at..end], &buffer[end..sender.length]);
-        let next = Sender {
-            at: end,
-            size,
-            resends: 0,
-            ..moved(sender)
+        let next = Busy {
+            sender: Sender {
+                at: end,
+                size,
+                resends: 0,
+                ..moved(busy)
+            },
         };
         let size = present(next, buffer, room, false);
         return Sending {
-            sender: next,
+            sender: next.sender,
             outcome: Outcome::Copy { size, gap: false },
         };
     }
@@ -293,19 +305,21 @@ fn onward(sender: Sender, buffer: &[u8; MESSAGE_SIZE], room: &mut [u8; PACKET_SI
 }
 
 // The present packet again, with bit 0 set, as often as it may be; then failed.
-fn again(sender: Sender, buffer: &[u8; MESSAGE_SIZE], room: &mut [u8; PACKET_SIZE]) -> Sending
-    requires { Out sender }
-    ensures { OutSteps sender buffer.now room.old Heard.TimeOut result room.new }
+fn again(busy: Busy, buffer: &[u8; MESSAGE_SIZE], room: &mut [u8; PACKET_SIZE]) -> Sending
+    ensures { OutSteps busy.sender buffer.now room.old Heard.TimeOut result room.new }
 {
+    let sender = busy.sender;
     if sender.resends < RESEND_LIMIT {
-        let next = Sender {
-            resends: sender.resends + 1,
-            copies: sender.copies + 1,
-            ..moved(sender)
+        let next = Busy {
+            sender: Sender {
+                resends: sender.resends + 1,
+                copies: sender.copies + 1,
+                ..moved(busy)
+            },
         };
         let size = present(next, buffer, room, true);
         return Sending {
-            sender: next,
+            sender: next.sender,
             outcome: Outcome::Copy { size, gap: false },
         };
     }
@@ -313,14 +327,13 @@ fn again(sender: Sender, buffer: &[u8; MESSAGE_SIZE], room: &mut [u8; PACKET_SIZ
 }
 
 // The message that is out, with nothing kept of the one before.
-fn moved(sender: Sender) -> Sender
-    requires { Out sender }
-    ensures { Moves sender sender.at sender.size sender.resends sender.copies result }
+fn moved(busy: Busy) -> Sender
+    ensures { Moves busy.sender busy.sender.at busy.sender.size busy.sender.resends busy.sender.copies result }
 {
     Sender {
         failed: false,
         delivered: false,
-        ..sender
+        ..busy.sender
     }
 }
 
@@ -352,26 +365,26 @@ fn failed(sender: Sender) -> Sending
 
 // A copy of the present packet, marked or not, and its size. It gives no sender back, so that none is moved for it.
 fn present(
-    sender: Sender,
+    busy: Busy,
     buffer: &[u8; MESSAGE_SIZE],
     room: &mut [u8; PACKET_SIZE],
     marked: bool,
 ) -> usize
-    requires { Out sender }
-    ensures { Presents sender buffer.now (from_bool marked) room.old result room.new }
+    ensures { Presents busy.sender buffer.now (from_bool marked) room.old result room.new }
 {
+    let sender = busy.sender;
     let end = sender.at + sender.size;
     let status = u8::from(end < sender.length) * 2 + u8::from(marked);
     copy(sender.code, &buffer[sender.at..end], room, status)
 }
 
-// The type and the piece go into the room from the fifth byte on, then header and checksum around them.
+// The type and the piece go into the room behind the header's place, then header and checksum around them.
 fn copy(code: u8, piece: &[u8], room: &mut [u8; PACKET_SIZE], status: u8) -> usize
     requires { (length piece.now ≤ piece_size) × (status < 4) }
     ensures { Fills (body_of decode_data reader status (code ∷ piece.now)) room.old result room.new }
 {
     let count = piece.len() + 1;
-    room[4] = code;
-    words::copy(piece, &mut room[5..4 + count]);
+    room[HEAD_SIZE] = code;
+    words::copy(piece, &mut room[HEAD_SIZE + 1..HEAD_SIZE + count]);
     packet::size_of(packet::fill(room, DECODE_DATA, READER, status, count))
 }

@@ -4,8 +4,8 @@ use Rattle.sender.proofs.Answering.{begin_copy, begun_out_by}
 use Rattle.sender.proofs.Copying.{copies_as}
 use Rattle.sender.proofs.begin.Goals as goal
 
-pub present-size-requires : goal.present-size-requires
-present-size-requires c = begun_out_by c.args.code (omega arith) c.idle.ensures c.next_size.ensures
+pub invariant_of-next : goal.invariant_of-next
+invariant_of-next c = record { out = begun_out_by c.args.code (omega arith) c.idle.ensures c.next_size.ensures }
 
 pub returns : goal.returns
 returns c = begin_copy c.idle.ensures (omega arith) c.copy.ensures c.gap_due-gap.ensures c.next_size.ensures (copies_as c.present-size.ensures)

@@ -7,8 +7,8 @@ use Rattle.sender.proofs.hear.Goals as goal
 pub returns-in_default : goal.returns-in_default
 returns-in_default c = hear_room c.in_default.ensures.cases c.refused.ensures
 
-pub out_step-requires : goal.out_step-requires
-out_step-requires c = sounds_out c.sound-now.ensures c.if-now.true
+pub invariant_of-out_step : goal.invariant_of-out_step
+invariant_of-out_step c = record { out = sounds_out c.sound-now.ensures c.if-now.true }
 
 pub returns-then-now : goal.returns-then-now
 returns-then-now c = let front = c.in-Some.ensures.cases in hear_out front.enough c.sound-now.ensures c.told-buffer front (omega arith) c.out_step.ensures
