@@ -335,9 +335,10 @@ fn length_of(n: usize, line: &[u8], bytes: &[u8]) -> usize
     ensures { LengthOf n line.now bytes.now result }
 {
     if n == 0 {
-        return usize::from(bytes[0]);
+        usize::from(bytes[0])
+    } else {
+        usize::from(line[0])
     }
-    usize::from(line[0])
 }
 
 // The first n bytes of the half that receives.
@@ -377,10 +378,7 @@ pub fn accept(halves: Halves, n: usize) -> Halves
 fn place(second: bool) -> usize
     ensures { Place second result }
 {
-    if second {
-        return PACKET_SIZE;
-    }
-    0
+    if second { PACKET_SIZE } else { 0 }
 }
 
 // How many bytes the last accepted packet has.
