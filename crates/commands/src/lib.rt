@@ -63,7 +63,7 @@ const BEEPS: [Beep; 30] = [
 // The highest code that is allowed.
 const BEEP_LIMIT: u8 = 0x1D;
 
-// What the commands switch on and off. stays: a control value keeps every byte as it was, so the switches are four flags in this order.
+// What the commands switch on and off: four flags in this order, as the control bytes of the C interface have them.
 #[derive(Clone, Copy)]
 pub struct Switches {
     pub scanning: bool,
@@ -137,7 +137,7 @@ pub fn length_allowed(command: Command, data: &[u8]) -> bool
         | Command::ScanEnable
         | Command::ScanDisable
         | Command::AimOn
-        | Command::AimOff => data.len() == 0,
+        | Command::AimOff => data.is_empty(),
     }
 }
 

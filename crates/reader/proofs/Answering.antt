@@ -5,7 +5,7 @@ use mathlib.Core.Bool.{Bool, true, false}
 use mathlib.Core.List.{List, [], ◌∷◌, ◌++◌, map}
 use native.Mathlib.Omega.{arith}
 use lib.Dec.{eqb, ltb}
-use lib.ListN.{length, get_or, take, drop, length-take, length-drop}
+use lib.ListN.{length, get_or, take, drop, length-take, length-drop, length-append}
 use lib.Seq.{length-take-le}
 use borrow.Author.Tests.{le-leb, lt-leb, le-ltb}
 use Rattle.words.specs.Lists.{pick, over, over_at, Copied}
@@ -78,7 +78,7 @@ unfolding seal reply_body reply_opcode reply_data body_of
 nak_few x true = omega arith
 nak_few x false = omega arith
 
-pub nak_most : (x : Refusal) → length (nak_bytes reader x) ≤ answer_size
+nak_most : (x : Refusal) → length (nak_bytes reader x) ≤ answer_size
 unfolding nak_bytes
 nak_most x = nak_few x (eqb (cause_of x) 0)
 
@@ -206,24 +206,34 @@ again_same {c} {answers} h m k step = let n = length-take-le c.last_answer answe
 
 -- ---- the room
 
--- What was written into the front of a room is written into the room.
-over_front : (n : ℕ) (q room part : List ℕ) → n ≤ length room → length q ≤ n → part ≡ over q (take n room) → part ++ drop n room ≡ over q room
+-- The front of a room was lent, and came back with q at its own front.
+front_over : (k : ℕ) (q room part : List ℕ) → k ≤ length room → length (part ++ drop k room) ≡ length room → part ≡ over q (take k room) → part ++ drop k room ≡ over q room
 unfolding over over_at
-over_front n q room part h m e = part_over 0 n q room part m (omega arith) e
+front_over k q room part h l e = part_over 0 k q room part fits (omega arith) e
+  where
+    fits : length q ≤ k
+    fits =
+        let long : length (over q (take k room)) ≡ length q + length (drop (length q) (take k room)) = length-append q (drop (length q) (take k room)) in
+        let whole : length (take k room) ≡ k = length-take-le k room h in
+        let same = ap length e in
+        let all = length-append part (drop k room) in
+        let rest = length-drop k room in
+        omega arith
 
--- A step that writes its answer into the front of the answer room, which is as long as the longest answer, writes it into the room.
-pub widen : {d : Done CoreState Output} {s : Sender} {answers copy part answers' copy' : List ℕ} {r : Stepped} (answer : List ℕ) → reader_answer_size ≤ length answer →
-    length (answer_of d.told) ≤ reader_answer_size → Steps d s answers (take reader_answer_size answer) copy r answers' part copy' →
-    Steps d s answers answer copy r answers' (part ++ drop reader_answer_size answer) copy'
-widen {d} {part = part} answer h m k =
+-- A step that writes into the fronts of the answer room and of the copy room writes into the rooms.
+pub widen : {d : Done CoreState Output} {s : Sender} {answers part answers' copied : List ℕ} {r : Stepped} (answer copy : List ℕ) → reader_answer_size ≤ length answer →
+    packet_size ≤ length copy → length (part ++ drop reader_answer_size answer) ≡ length answer → length (copied ++ drop packet_size copy) ≡ length copy →
+    Steps d s answers (take reader_answer_size answer) (take packet_size copy) r answers' part copied →
+    Steps d s answers answer copy r answers' (part ++ drop reader_answer_size answer) (copied ++ drop packet_size copy)
+widen {d} {part = part} {copied = copied} answer copy h l m n k =
     record {
       told_is = k.told_is;
       count_is = k.count_is;
       outcome_is = k.outcome_is;
       core_is = k.core_is;
       answers_is = k.answers_is;
-      answer_is = over_front reader_answer_size (answer_of d.told) answer part h m k.answer_is;
-      copy_is = k.copy_is;
+      answer_is = front_over reader_answer_size (answer_of d.told) answer part h m k.answer_is;
+      copy_is = front_over packet_size (sending.copy_of (sent_of d.told)) copy copied l n k.copy_is;
     }
 
 -- ---- steps that leave the state

@@ -43,9 +43,8 @@ use Rattle.commands.specs.Commands.{DeviceState, named_by, length_allowed, Acted
 use Rattle.commands.specs.declared.Command.{Command}
 use Rattle.std.proofs.Common.{Option, Some, None}
 use Rattle.reader.specs.Reader.{CoreState, Output, refused, repeated, beeped, switched, answered, sent, reader_answer_size, handshake, if_handshake, request_bytes, refuses, no_packet_step, is_request, answer_to, acts, command_step, known_step, named_step, judged_step, sender_hears, packet_step, heard_step, reader_step}
-use Rattle.reader.proofs.Answering.{kept_fits, widen, nak_most, answer_sent, answer_answering}
-use Rattle.reader.proofs.Judging.{done_answer}
-use Rattle.reader.specs.Promises.{told_of, answer_of, sent_of, last_answer_of, sound_core, core_of, state_of, accepts, accepts_name, heeded, sender_after, core_after, reader_of, too_small, Steps, sender_through, control_after, Hears, no_room_of, Quiet, SoundCore, Leaves, Judges, ToSender, Settles, Receives}
+use Rattle.reader.proofs.Answering.{kept_fits, widen}
+use Rattle.reader.specs.Promises.{told_of, answer_of, sent_of, last_answer_of, sound_core, core_of, state_of, accepts, accepts_name, heeded, sender_after, core_after, reader_of, too_small, Steps, sender_through, control_after, Hears, NoRoom, Quiet, SoundCore, Leaves, Judges, ToSender, Settles, Receives}
 use Rattle.reader.specs.declared.Core.{Core}
 use Rattle.reader.specs.declared.Stepped.{Stepped}
 use Rattle.reader.specs.declared.Reader.{Reader}
@@ -83,19 +82,9 @@ no_packet_left : (c : CoreState) (x : Refusal) → accepts (no_packet_step c x).
 unfolding no_packet_step
 no_packet_left c x = left_by_lem (waits c.sender) c x
 
--- No NAK is longer than the longest answer.
-shaken_few : (b : Bool) (bytes : List ℕ) → length bytes ≤ reader_answer_size → length (pick b bytes []) ≤ reader_answer_size
-shaken_few true bytes h = h
-shaken_few false bytes h = omega arith
-
-refused_few : (d : DeviceState) (x : Refusal) → length (if_handshake d (nak_bytes opcode.reader x)) ≤ reader_answer_size
-unfolding if_handshake
-refused_few d x = let m = nak_most x in shaken_few (handshake d) (nak_bytes opcode.reader x) (omega arith)
-
--- A step of the core on a body: the answer fits its buffer and the answer room, the last accepted packet is the body where it was accepted, and the sender's state.
+-- A step of the core on a body: the answer that is kept fits its buffer, the last accepted packet is the body where it was accepted, and the sender's state.
 record Kept (c : CoreState) (body : List ℕ) (sender : SenderState) (d : Done CoreState Output) : Type 0 where
   few : length d.next.last_answer ≤ reader_answer_size
-  most : length (answer_of d.told) ≤ reader_answer_size
   last_is : d.next.last ≡ pick (accepts d.told) (unmarked body) c.last
   sender_is : d.next.sender ≡ sender
 
@@ -105,33 +94,31 @@ kept_test true k k' = k
 kept_test false k k' = k'
 
 module _ (c : CoreState) (body : List ℕ) (few : length c.last_answer ≤ reader_answer_size) where
-  kept_still : (outs : List Output) → accepts outs ≡ false → length (answer_of outs) ≤ reader_answer_size → Kept c body c.sender (record { next = c; told = outs })
-  kept_still outs e m = record { few = few; most = m; last_is = simp e; sender_is = refl }
+  kept_still : (outs : List Output) → accepts outs ≡ false → Kept c body c.sender (record { next = c; told = outs })
+  kept_still outs e = record { few = few; last_is = simp e; sender_is = refl }
 
   kept_refused : (x : Refusal) → Kept c body c.sender (refuses c x)
-  unfolding accepts told_of answer_of
+  unfolding accepts told_of
   kept_refused x =
-      let bytes = if_handshake c.device (nak_bytes opcode.reader x) in
-      kept_still (refused x ∷ given answered bytes) refl (rw (answer_answering bytes) (refused_few c.device x))
+      kept_still (refused x ∷ given answered (if_handshake c.device (nak_bytes opcode.reader x))) refl
 
   kept_no_packet : (x : Refusal) → Kept c body c.sender (no_packet_step c x)
   unfolding no_packet_step accepts told_of answer_of
-  kept_no_packet x = kept_test (waits c.sender) (kept_still (refused x ∷ []) refl (omega arith)) (kept_refused x)
+  kept_no_packet x = kept_test (waits c.sender) (kept_still (refused x ∷ []) refl) (kept_refused x)
 
   kept_acts : (k : Command) (act : Acted) → Kept c body c.sender (acts c k body act)
   unfolding acts
   kept_acts k (denied x) = kept_refused x
   kept_acts k (acted d rows) =
       let bytes : List ℕ = answer_to c.device k (data_in body) in
-      let m = answer_few c.device k (data_in body) in
-      record { few = m; most = rw (done_answer rows d bytes) m; last_is = simp (accepts_done rows d (given answered bytes)); sender_is = refl }
+      record { few = answer_few c.device k (data_in body); last_is = simp (accepts_done rows d (given answered bytes)); sender_is = refl }
 
   kept_named : (n : Option Command) → Kept c body c.sender (named_step n c body)
-  unfolding named_step known_step command_step accepts told_of answer_of
+  unfolding named_step known_step command_step accepts told_of
   kept_named None = kept_refused refusal.Opcode
   kept_named (Some k) =
       kept_test (length_allowed k (data_in body))
-      (kept_test (resent_equal c.last body) (kept_still (repeated ∷ given answered c.last_answer) refl (rw (answer_answering c.last_answer) few))
+      (kept_test (resent_equal c.last body) (kept_still (repeated ∷ given answered c.last_answer) refl)
       (kept_acts k (effect c.device k (get_or body 3 0) (data_in body))))
       (kept_refused refusal.Data)
 
@@ -144,7 +131,7 @@ module _ (c : CoreState) (body : List ℕ) (few : length c.last_answer ≤ reade
 
   packet_by : (a : Bool) (d : Done SenderState Sent) → Kept c body (pick a d.next c.sender) (pick a (sender_hears c d) (judged_step c body))
   unfolding sender_hears
-  packet_by true d = record { few = few; most = rw (answer_sent d.told) (omega arith); last_is = simp (accepts_sent d.told); sender_is = refl }
+  packet_by true d = record { few = few; last_is = simp (accepts_sent d.told); sender_is = refl }
   packet_by false d = kept_judged
 
   kept_packet : Kept c body (pick (is_answer (get_or body 1 0)) (sender_step c.sender (heeded body)).next c.sender) (packet_step c body)
@@ -206,7 +193,7 @@ few_kept line answers message sound = let f = rw sound.is at sound.few in simp l
 module _ {reader : Reader} {line : List ℕ} {e : Event} {l : Listened} {line' : List ℕ} (k : Listens reader.line line e l line')
     {answer copy : List ℕ} (a : reader_answer_size ≤ length answer) (b : packet_size ≤ length copy) where
   -- The core's step on what was told, d, with the control value and the buffers that it leaves.
-  settled : {d : Done CoreState Output} {n : ℕ} {s : Sender} {st : Stepped} {r : Taken} {answers message answers' part copy' : List ℕ} →
+  settled : {d : Done CoreState Output} {n : ℕ} {s : Sender} {st : Stepped} {r : Taken} {answers message answers' part copied : List ℕ} →
       silent (framer_at reader line e).told ≡ false →
       through heard_step (core_at reader line answers message) (framer_at reader line e).told ≡ d →
       sender_through reader.sender message (framer_at reader line e).told ≡ s →
@@ -214,12 +201,14 @@ module _ {reader : Reader} {line : List ℕ} {e : Event} {l : Listened} {line' :
       n ≤ body_size →
       (accepts d.told ≡ true → length (received_in l.halves line' n) ≡ n) →
       (accepts d.told ≡ true → (framer_at reader line e).next ≡ hearing []) →
-      Steps d s answers (take reader_answer_size answer) copy st answers' part copy' →
+      length (part ++ drop reader_answer_size answer) ≡ length answer →
+      length (copied ++ drop packet_size copy) ≡ length copy →
+      Steps d s answers (take reader_answer_size answer) (take packet_size copy) st answers' part copied →
       Settles l.halves n st r →
-      Hears reader line answers message answer copy e r line' answers' (part ++ drop reader_answer_size answer) copy'
+      Hears reader line answers message answer copy e r line' answers' (part ++ drop reader_answer_size answer) (copied ++ drop packet_size copy)
   unfolding too_small reader_step framed state_of control_after core_of tells_nothing
-  settled {d} {n} {s} {st} {r} {answers} {message} tells t u kept h size idle front settles =
-      let steps = widen answer a kept.most front in
+  settled {d} {n} {s} {st} {r} {answers} {message} tells t u kept h size idle wide all front settles =
+      let steps = widen answer copy a b wide all front in
       let p = le-ltb (length answer) reader_answer_size a in
       let q = le-ltb (length copy) packet_size b in
       let yes = accepts d.told in
@@ -242,10 +231,10 @@ module _ {reader : Reader} {line : List ℕ} {e : Event} {l : Listened} {line' :
       }
 
   -- The framer tells nothing.
-  pub hear_quiet : {answers message front : List ℕ} {r : Taken} → front ≡ take reader_answer_size answer → l.found ≡ found.Nothing → Quiet reader l.halves r →
-      Hears reader line answers message answer copy e r line' answers (front ++ drop reader_answer_size answer) copy
+  pub hear_quiet : {answers message front copied : List ℕ} {r : Taken} → front ≡ take reader_answer_size answer → copied ≡ take packet_size copy → l.found ≡ found.Nothing → Quiet reader l.halves r →
+      Hears reader line answers message answer copy e r line' answers (front ++ drop reader_answer_size answer) (copied ++ drop packet_size copy)
   unfolding too_small reader_step framed state_of control_after core_of tells_nothing silent through sender_through accepts told_of answer_of sent_of sending.name_of sending.copy_of
-  hear_quiet {answers} z f quiet =
+  hear_quiet {answers} z y f quiet =
       let p = le-ltb (length answer) reader_answer_size a in
       let q = le-ltb (length copy) packet_size b in
       let t = listened_nothing k f in
@@ -255,16 +244,18 @@ module _ {reader : Reader} {line : List ℕ} {e : Event} {l : Listened} {line' :
         line_is = simp (p, q) k.buffer_is;
         answers_is = simp (p, q) (rw t (sym (over_take (last_answer_of reader.last_answer) answers)));
         answer_is = simp (p, q) (rw (t, z) (take-append-drop reader_answer_size answer ∙ sym (over_nil answer)));
-        copy_is = simp (p, q) (rw t (sym (over_nil copy)));
+        copy_is = simp (p, q) (rw (t, y) (take-append-drop packet_size copy ∙ sym (over_nil copy)));
       }
 
   -- What the framer does not let through, and what it finds, by the control value that is taken. The answer goes into the front of its room.
-  module _ {c : Core} {answers message front part : List ℕ} {r : Taken} (sound : SoundCore reader c) (f : front ≡ take reader_answer_size answer) where
+  module _ {c : Core} {answers message front part room : List ℕ} {r : Taken} (sound : SoundCore reader c) (f : front ≡ take reader_answer_size answer) (g : room ≡ take packet_size copy)
+      (wide : length (part ++ drop reader_answer_size answer) ≡ length answer) where
     pub hear_refused : {st : Stepped} {x : Refusal} → length answers ≡ reader_answer_size → l.found ≡ found.Refused x → Leaves (λ (s : CoreState). no_packet_step s x) c front st part →
-        Settles l.halves 0 st r → Hears reader line answers message answer copy e r line' answers (part ++ drop reader_answer_size answer) copy
+        Settles l.halves 0 st r → Hears reader line answers message answer copy e r line' answers (part ++ drop reader_answer_size answer) (room ++ drop packet_size copy)
     unfolding silent heard_step sender_through core_of
     hear_refused {x = x} m q leaves settles =
-        settled {n = 0} {s = reader.sender}
+        rw g
+        (settled {n = 0} {s = reader.sender}
         (rw (listened_refused k q) refl)
         (rw (listened_refused k q) (through_one heard_step (core_at reader line answers message) (noPacket x)))
         (rw (listened_refused k q) refl)
@@ -272,14 +263,16 @@ module _ {reader : Reader} {line : List ℕ} {e : Event} {l : Listened} {line' :
         (omega arith)
         (λ z. let y = no_packet_left (core_at reader line answers message) x in never (cc))
         (λ z. let y = no_packet_left (core_at reader line answers message) x in never (cc))
-        (rw (sound.is, f) at (leaves.steps (kept_in reader.line line) answers message copy (kept_fits answers sound.few m)))
-        settles
+        wide
+        (ap length (take-append-drop packet_size copy))
+        (rw (sound.is, f, g) at (leaves.steps (kept_in reader.line line) answers message room (kept_fits answers sound.few m)))
+        settles)
 
-    pub hear_packet : {h : Head} {answers' copy' : List ℕ} → l.found ≡ found.Packet h →
-        Receives l.halves c h.length line' answers message front copy r answers' part copy' →
-        Hears reader line answers message answer copy e r line' answers' (part ++ drop reader_answer_size answer) copy'
+    pub hear_packet : {h : Head} {answers' copied : List ℕ} → length (copied ++ drop packet_size copy) ≡ length copy → l.found ≡ found.Packet h →
+        Receives l.halves c h.length line' answers message front room r answers' part copied →
+        Hears reader line answers message answer copy e r line' answers' (part ++ drop reader_answer_size answer) (copied ++ drop packet_size copy)
     unfolding silent heard_step sender_through core_of sender_after
-    hear_packet {h} q receives =
+    hear_packet {h} all q receives =
         let w = listened_packet k q in
         let body : List ℕ = received_in l.halves line' h.length in
         settled {s = sender_after reader.sender message body}
@@ -290,28 +283,32 @@ module _ {reader : Reader} {line : List ℕ} {e : Event} {l : Listened} {line' :
         w.most
         (λ z. w.long)
         (λ z. w.idle)
-        (rw (sound.is, kept_listened k, f) at receives.steps)
+        wide
+        all
+        (rw (sound.is, kept_listened k, f, g) at receives.steps)
         receives.settles
 
 -- Number 13.
-hear_small : {reader : Reader} {line answers message answer copy : List ℕ} {e : Event} → too_small answer copy ≡ true →
-    Hears reader line answers message answer copy e (no_room_of reader) line answers answer copy
-hear_small t =
+hear_small : {reader : Reader} {line answers message answer copy : List ℕ} {e : Event} {r : Taken} → too_small answer copy ≡ true → NoRoom reader r →
+    Hears reader line answers message answer copy e r line answers answer copy
+hear_small t k =
     record {
-      is = simp t;
-      next = simp t;
+      is = k.is ∙ simp t;
+      next = rw k.is (simp t);
       line_is = simp t;
       answers_is = simp t;
       answer_is = simp (t, over_nil);
       copy_is = simp (t, over_nil);
     }
 
-pub hear_answer : {reader : Reader} {line answers message answer copy : List ℕ} {e : Event} → length answer < reader_answer_size →
-    Hears reader line answers message answer copy e (no_room_of reader) line answers answer copy
+pub hear_answer : {reader : Reader} {line answers message answer copy : List ℕ} {e : Event} {r : Taken} → length answer < reader_answer_size → NoRoom reader r →
+    Hears reader line answers message answer copy e r line answers answer copy
 unfolding too_small
-hear_answer {answer = answer} h = hear_small (simp (lt-ltb (length answer) reader_answer_size h))
+hear_answer {answer = answer} h k = hear_small (simp (lt-ltb (length answer) reader_answer_size h)) k
 
-pub hear_copy : {reader : Reader} {line answers message answer copy : List ℕ} {e : Event} → reader_answer_size ≤ length answer → length copy < packet_size →
-    Hears reader line answers message answer copy e (no_room_of reader) line answers answer copy
+pub hear_copy : {reader : Reader} {line answers message answer copy front : List ℕ} {e : Event} {r : Taken} → reader_answer_size ≤ length answer → front ≡ take reader_answer_size answer →
+    length copy < packet_size → NoRoom reader r → Hears reader line answers message answer copy e r line answers (front ++ drop reader_answer_size answer) copy
 unfolding too_small
-hear_copy {answer = answer} {copy = copy} a h = hear_small (simp (le-ltb (length answer) reader_answer_size a, lt-ltb (length copy) packet_size h))
+hear_copy {answer = answer} {copy = copy} a same h k =
+    rw (same, take-append-drop reader_answer_size answer)
+    (hear_small (simp (le-ltb (length answer) reader_answer_size a, lt-ltb (length copy) packet_size h)) k)

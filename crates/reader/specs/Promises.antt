@@ -183,6 +183,9 @@ control_after reader line message e d =
 abbrev pub no_room_of : Reader → Taken
 no_room_of reader = record { reader = reader; told = told.Refused refusal.Room; answer = 0; outcome = outcome.Nothing }
 
+pub record NoRoom (reader : Reader) (r : Taken) : Type 0 where
+  pub is : r ≡ no_room_of reader
+
 pub record Hears (reader : Reader) (line answers message answer copy : List ℕ) (e : Event) (r : Taken) (line' answers' answer' copy' : List ℕ) : Type 0 where
   pub is :
       r

@@ -5,23 +5,26 @@ ghost use Rattle.std.specs.Prelude.{◌≤◌, ◌≡◌, length};
 ghost use Rattle.packet.specs.Opcodes as opcode;
 ghost use Rattle.packet.specs.Packet.{seal, reply_body};
 ghost use Rattle.packet.specs.Refusals.{nak_bytes};
-ghost use Rattle.packet.specs.Sizes.{head_size, body_size, packet_size};
+ghost use Rattle.packet.specs.Sizes.{head_size, body_size};
 ghost use Rattle.table.specs.Promises.{values_of};
 ghost use Rattle.reader.specs.Reader.{reader_answer_size, judged_step, known_step, no_packet_step, refuses, if_handshake, request_bytes, answer_to};
 ghost use Rattle.commands.specs.Promises.{device_of};
-ghost use Rattle.reader.specs.Promises.{SwitchedOn, PowersUp, Loads, Hears, Starts, TimesOut, Quiet, SoundCore, Handshake, Writes, WithTable, StepOf, SentBy, Accepts, ToSender, Leaves, Judges, Performs, Again, Acts, Joined, Settles, Receives};
+ghost use Rattle.reader.specs.Promises.{SwitchedOn, PowersUp, Loads, Hears, NoRoom, Starts, TimesOut, Quiet, SoundCore, Handshake, Writes, WithTable, StepOf, SentBy, Accepts, ToSender, Leaves, Judges, Performs, Again, Acts, Joined, Settles, Receives};
 
 use commands::{Acted, Beep, Command, Device, Switches};
-use framer::{Event, Found, Halves, LINE_SIZE};
+use framer::{Event, Found, Halves, LINE_SIZE, Listened};
 use packet::{HOST, MESSAGE_SIZE, PACKET_SIZE, PARAM_SEND, READER, Refusal, Reply};
 use sender::{Heard, Outcome, Sender, Sending};
 use table::Table;
+
+// The parameter that says whether ACK and NAK go out.
+const HANDSHAKE: u8 = 0x9F;
 
 // The longest answer: a PARAM_SEND with all parameters.
 pub const READER_ANSWER_SIZE: usize = packet::HEAD_SIZE + table::PAIRS_SIZE + packet::CHECKSUM_SIZE;
 
 // The reader's control value: the line with its last accepted packet, how long the answer to that one was, the device, the sender.
-// stays: the C interface keeps each of its bytes as it was, so a length stands here that no answer may have, and 0 for none.
+// The C interface gives back each control byte, so `last_answer` may be a length that no answer has; 0 is none.
 #[derive(Clone, Copy)]
 pub struct Reader {
     pub line: Halves,
@@ -30,7 +33,7 @@ pub struct Reader {
     pub sender: Sender,
 }
 
-// What an event brought of commands. stays: four cases, two of them with a value of their own, are no Option and no Result.
+// What an event brought of commands. Four cases, which no Option or Result tells apart.
 #[derive(Clone, Copy)]
 pub enum Told {
     Nothing,
@@ -56,8 +59,16 @@ pub struct Started {
     pub outcome: Outcome,
 }
 
-// The reader's control value without its line. stays: the bound on last_answer is a short clause of five functions; as a ghost field each
-// definition that puts a core together would have to carry its proof.
+// A packet that came, and the last accepted one.
+#[derive(Clone, Copy)]
+struct Packets<'a> {
+    body: &'a [u8],
+    last: &'a [u8],
+    ghost headed: { head_size ≤ length body.now },
+}
+
+// The reader's control value without its line. The bound on `last_answer` is a short clause of five functions: as a ghost field here, each
+// definition that puts a core together would have to prove it, and a step's promise speaks of cores that it bounds nowhere.
 #[derive(Clone, Copy)]
 struct Core {
     last_answer: usize,
@@ -178,19 +189,14 @@ pub fn hear(
 ) -> Taken
     ensures { Hears reader line.old answers.old message.now answer.old copy.old event result line.new answers.new answer.new copy.new }
 {
-    if answer.len() < READER_ANSWER_SIZE || copy.len() < PACKET_SIZE {
-        return Taken {
-            reader,
-            told: Told::Refused(Refusal::Room),
-            answer: 0,
-            outcome: Outcome::Nothing,
-        };
-    }
-    // As long as the longest answer from here on, so that no function below asks for it.
-    let answer = answer.first_chunk_mut().unwrap();
-    let listened = framer::listen(reader.line, line, event);
-    let halves = listened.halves;
-    match listened.found {
+    let Some(answer) = answer.first_chunk_mut::<READER_ANSWER_SIZE>() else {
+        return no_room(reader);
+    };
+    let Some(copy) = copy.first_chunk_mut::<PACKET_SIZE>() else {
+        return no_room(reader);
+    };
+    let Listened { halves, found } = framer::listen(reader.line, line, event);
+    match found {
         Found::Nothing => quiet(reader, halves),
         Found::Refused(refusal) => settle(
             halves,
@@ -207,6 +213,18 @@ pub fn hear(
             answer,
             copy,
         ),
+    }
+}
+
+// The event is not taken.
+fn no_room(reader: Reader) -> Taken
+    ensures { NoRoom reader result }
+{
+    Taken {
+        reader,
+        told: Told::Refused(Refusal::Room),
+        answer: 0,
+        outcome: Outcome::Nothing,
     }
 }
 
@@ -253,8 +271,7 @@ fn step(core: Core, told: Told, answer: usize) -> Stepped
     }
 }
 
-// The control value after an event; a command that was acted on stays where it was received. stays: two returns, as joined behind one `if`
-// the compiled event takes 16 bytes of stack more.
+// The control value after an event. An accepted command keeps its half of the line. Two returns: one behind an `if` takes 16 bytes of stack more.
 fn settle(halves: Halves, n: usize, stepped: Stepped) -> Taken
     ensures { Settles halves n stepped result }
 {
@@ -296,24 +313,31 @@ fn received(
     answers: &mut [u8; READER_ANSWER_SIZE],
     message: &[u8; MESSAGE_SIZE],
     answer: &mut [u8; READER_ANSWER_SIZE],
-    copy: &mut [u8],
+    copy: &mut [u8; PACKET_SIZE],
 ) -> Taken
-    requires { (core.last_answer ≤ reader_answer_size) × (packet_size ≤ length copy.old) × (head_size ≤ n) × (n ≤ body_size) }
+    requires { (core.last_answer ≤ reader_answer_size) × (head_size ≤ n) × (n ≤ body_size) }
     ensures { Receives halves core n line.now answers.old message.now answer.old copy.old result answers.new answer.new copy.new }
 {
-    let body = framer::received(halves, line, n);
-    let last = framer::kept(halves, line);
-    if packet::is_answer(body[1]) {
-        return settle(halves, n, to_sender(core, body, message, copy));
+    let packets = Packets {
+        body: framer::received(halves, line, n),
+        last: framer::kept(halves, line),
+    };
+    if packet::is_answer(packets.body[1]) {
+        return settle(halves, n, to_sender(core, packets, message, copy));
     }
-    settle(halves, n, judge(core, body, last, answers, answer))
+    settle(halves, n, judge(core, packets, answers, answer))
 }
 
 // CMD_ACK and CMD_NAK go to the sender and are never refused.
-fn to_sender(core: Core, body: &[u8], message: &[u8; MESSAGE_SIZE], copy: &mut [u8]) -> Stepped
-    requires { (packet_size ≤ length copy.old) × (head_size ≤ length body.now) }
-    ensures { ToSender core body.now message.now copy.old result copy.new }
+fn to_sender(
+    core: Core,
+    packets: Packets,
+    message: &[u8; MESSAGE_SIZE],
+    copy: &mut [u8; PACKET_SIZE],
+) -> Stepped
+    ensures { ToSender core packets.entry.body.now message.now copy.old result copy.new }
 {
+    let body = packets.body;
     let heard = sender::heed(HOST, body[1], body[2], body[3], packet::data_part(body));
     // A copy of the sender alone: the whole core would stand in memory for the call.
     let before = core.sender;
@@ -347,7 +371,7 @@ fn refuse(core: Core, refusal: Refusal, answer: &mut [u8; READER_ANSWER_SIZE]) -
     step(core, Told::Refused(refusal), count)
 }
 
-// ACK and NAK go out only if 9Fh is 1.
+// ACK and NAK go out only if 9Fh is 1. Two functions: one would take what writes as a closure over the room, for one `if` less.
 fn nak(device: Device, refusal: Refusal, answer: &mut [u8; READER_ANSWER_SIZE]) -> usize
     ensures { Writes (if_handshake (device_of device) (nak_bytes opcode.reader refusal)) answer.old result answer.new }
 {
@@ -369,21 +393,21 @@ fn ack(device: Device, answer: &mut [u8; READER_ANSWER_SIZE]) -> usize
 fn handshake(device: Device) -> bool
     ensures { Handshake device result }
 {
-    table::value(device.table, 0x9F) == 1
+    table::value(device.table, HANDSHAKE) == 1
 }
 
-// 4 to 6, then the command. stays: the two buffers go side by side; as one struct of two `&mut` every contract would name them through its
-// entry and its exit.
+// 4 to 6, then the command. The two buffers are two parameters: in a struct lent by `&mut` each contract would name them by two steps,
+// `rooms.old.answers.now`.
 fn judge(
     core: Core,
-    body: &[u8],
-    last: &[u8],
+    packets: Packets,
     answers: &mut [u8; READER_ANSWER_SIZE],
     answer: &mut [u8; READER_ANSWER_SIZE],
 ) -> Stepped
-    requires { (core.last_answer ≤ reader_answer_size) × (head_size ≤ length body.now) }
-    ensures { Judges judged_step core body.now last.now answers.old answer.old result answers.new answer.new }
+    requires { core.last_answer ≤ reader_answer_size }
+    ensures { Judges judged_step core packets.entry.body.now packets.entry.last.now answers.old answer.old result answers.new answer.new }
 {
+    let body = packets.body;
     if body[2] != HOST {
         return refuse(core, Refusal::Source, answer);
     }
@@ -393,26 +417,26 @@ fn judge(
     let Some(command) = commands::named_by(body[1]) else {
         return refuse(core, Refusal::Opcode, answer);
     };
-    known(core, command, body, last, answers, answer)
+    known(core, command, packets, answers, answer)
 }
 
 // A command that is known: 7, then a resent equal gets the same answer again, and any other is performed.
 fn known(
     core: Core,
     command: Command,
-    body: &[u8],
-    last: &[u8],
+    packets: Packets,
     answers: &mut [u8; READER_ANSWER_SIZE],
     answer: &mut [u8; READER_ANSWER_SIZE],
 ) -> Stepped
-    requires { (core.last_answer ≤ reader_answer_size) × (head_size ≤ length body.now) }
-    ensures { Judges (known_step command) core body.now last.now answers.old answer.old result answers.new answer.new }
+    requires { core.last_answer ≤ reader_answer_size }
+    ensures { Judges (known_step command) core packets.entry.body.now packets.entry.last.now answers.old answer.old result answers.new answer.new }
 {
+    let body = packets.body;
     let data = packet::data_part(body);
     if !commands::length_allowed(command, data) {
         return refuse(core, Refusal::Data, answer);
     }
-    if packet::resent_equal(last, body) {
+    if packet::resent_equal(packets.last, body) {
         return again(core, answers, answer);
     }
     perform(core, command, body[3], data, answers, answer)
