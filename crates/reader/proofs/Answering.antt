@@ -293,7 +293,7 @@ unfolding told_of
 told_sent [] = refl
 told_sent (x ∷ xs) = refl
 
-pub answer_sent : (xs : List Sent) → answer_of (map sent xs) ≡ []
+answer_sent : (xs : List Sent) → answer_of (map sent xs) ≡ []
 unfolding answer_of
 answer_sent [] = refl
 answer_sent (x ∷ xs) = answer_sent xs

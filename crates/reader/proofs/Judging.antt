@@ -37,7 +37,7 @@ unfolding told_of beep_of
 done_told_lem [] d bytes = refl
 done_told_lem (row ∷ rows) d bytes = refl
 
-pub done_answer : (rows : List (List ℕ)) (d : DeviceState) (bytes : List ℕ) → answer_of (done_told rows d bytes) ≡ bytes
+done_answer : (rows : List (List ℕ)) (d : DeviceState) (bytes : List ℕ) → answer_of (done_told rows d bytes) ≡ bytes
 unfolding answer_of
 done_answer [] d bytes = answer_answering bytes
 done_answer (row ∷ rows) d bytes = done_answer rows d bytes

@@ -454,15 +454,9 @@ fn perform(
     requires { core.last_answer ≤ reader_answer_size }
     ensures { Performs core command status «data».now answers.old answer.old result answers.new answer.new }
 {
-    // The same core put together again: the compiled code then keeps its parts and no second copy, which saves 128 bytes of stack.
-    let same = Core {
-        last_answer: core.last_answer,
-        device: core.device,
-        sender: core.sender,
-    };
     match commands::act(core.device, command, status, data) {
-        Ok(acted) => act(same, acted, command, data, answers, answer),
-        Err(refusal) => refuse(same, refusal, answer),
+        Ok(acted) => act(core, acted, command, data, answers, answer),
+        Err(refusal) => refuse(core, refusal, answer),
     }
 }
 
@@ -517,6 +511,7 @@ fn answer_to(
 }
 
 // The pairs are written into the middle of the room, after the header; then header and checksum are filled in around them.
+// A match: `and_then` would lend the room to a closure, behind which the proof has no name for what stands in it.
 fn request(table: Table, asked: &[u8], answer: &mut [u8; READER_ANSWER_SIZE]) -> usize
     ensures { Writes (request_bytes (values_of table) asked.now) answer.old result answer.new }
 {
