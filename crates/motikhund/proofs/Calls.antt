@@ -28,7 +28,7 @@ use Rattle.hub.proofs.Blocks.{refused_block}
 use Rattle.hub.specs.declared.Hub.{Hub}
 use Rattle.hub.specs.declared.Taken.{Taken}
 use Rattle.framer.specs.declared.Going.{Going}
-use Rattle.framer.specs.declared.Going.TheVariants.{On, Woken}
+use Rattle.framer.specs.declared.Going.TheVariants.{On, Woken, Left}
 use Rattle.sender.specs.Promises as sending
 use Rattle.sender.specs.declared.Heard.{Heard}
 use Rattle.sender.specs.declared.Sender.{Sender}
@@ -48,9 +48,9 @@ use Rattle.reader.specs.declared.Reader.{Reader}
 use Rattle.reader.specs.declared.Taken.{Taken as Commanded}
 use Rattle.reader.specs.declared.Started.{Started}
 use Rattle.motikhund.specs.Lent.{Need, at_least, Lacking, here, there, Enough, none, more, Asks, IfNamed, KeptUnless, Kept, Made}
-use Rattle.motikhund.specs.Control.{sender_control_size, reader_control_size, number_in, number_bytes, flag_in, framer_in, framer_bytes, hub_in, hub_bytes, sender_in, sender_bytes, reader_in, reader_bytes, FramerIn, PutsNumber, PutsFramer, HubIn, PutsHub, SenderIn, PutsSender, ReaderIn, PutsReader, PermanentChanged}
-use Rattle.motikhund.specs.Numbers.{is_event, is_reply, no_head, EventOf, HeardOf, ReplyOf, RefusalNumber, result_number, ResultNumber, FoundNumber, FoundValues, HubNumber, HubValues, OutcomeNumber, OutcomeValue, StartValues, is_refused, OutcomeRefused, ReaderNumber, ReaderValues, settled_number}
-use Rattle.motikhund.specs.Promises.{PacketAnswers, FramerHears, GoesOn, HubHears, HubHearsBlock, Brings, Begins, SenderStarts, SenderHears, FreshReader, ReaderStarts, ReaderTimesOut, ReaderHears, ReaderLoads}
+use Rattle.motikhund.specs.Control.{sender_control_size, reader_control_size, number_in, number_bytes, flag_in, framer_in, framer_bytes, hub_in, hub_bytes, sender_in, sender_bytes, reader_in, reader_bytes, FramerIn, PutsNumber, PutsFramer, HubIn, PutsHub, SenderIn, PutsSender, ReaderIn, PutsReader, Switches, PermanentChanged, flag_byte}
+use Rattle.motikhund.specs.Numbers.{is_event, is_reply, no_head, EventOf, HeardOf, ReplyOf, RefusalNumber, result_number, ResultNumber, FoundNumber, FoundValues, HubNumber, HubValues, OutcomeNumber, OutcomeValue, StartValues, is_refused, OutcomeRefused, waits_number, ReaderNumber, ReaderValues, settled_number}
+use Rattle.motikhund.specs.Promises.{PacketAnswers, FramerHears, GoesOn, HubHears, HubTakesBlock, HubHearsBlock, Brings, Begins, SenderStarts, SenderHears, SenderWaits, FreshReader, ReaderStarts, ReaderTimesOut, ReaderHears, ReaderLocked, ReaderSaves, ReaderLoads, ReaderSwitches}
 use Rattle.motikhund.proofs.Reading.{number_back, framer_back, hub_back, sender_back, reader_back}
 
 -- ---- what is lent
@@ -218,6 +218,9 @@ module _ {front line line' : List ℕ} {n : ℕ} {f : Framer} {e : Event} {going
   pub went_awake : {front' : List ℕ} {next : Framer} → going ≡ Woken → framing.Idle next → PutsFramer next front front' → GoesOn front line n true front' line'
   went_awake q idle put = record { going = going; goes = rw (before-is.is, event.is) at goes; told = rw q refl; front_is = rw q (framer_kept (rw idle.is at put)) }
 
+  pub was_left : going ≡ Left → GoesOn front line n false front line'
+  was_left q = record { going = going; goes = rw (before-is.is, event.is) at goes; told = rw q refl; front_is = rw q refl }
+
 -- ---- the hub
 
 pub hub_13 : {control line gather answer message : List ℕ} {n : ℕ} → Lacking (at_least 29 control ∷ at_least joining.hub_answer_size answer ∷ at_least message_size message ∷ []) →
@@ -271,6 +274,10 @@ module _ {control line gather answer message bytes : List ℕ} (c : 29 ≤ lengt
       unfolding joining.too_small
       block_long h = block_unread refusal.Long (blocks.block_15 (simp (le-ltb (length answer) joining.hub_answer_size a, le-ltb (length message) message_size m)) h)
 
+pub block_reads : {control line gather answer message bytes control' line' gather' answer' message' values : List ℕ} {r : ℕ} → 29 ≤ length control →
+    HubTakesBlock control line gather answer message bytes r control' line' gather' answer' message' values → HubHearsBlock control line gather answer message bytes r control' line' gather' answer' message' values
+block_reads c k = record { asks = asks_enough (more c none) k }
+
 pub block_small : {control line gather answer message bytes : List ℕ} →
     (length control < 29) ⊎ (((29 ≤ length control) × (length answer < joining.hub_answer_size)) ⊎ ((29 ≤ length control) × (joining.hub_answer_size ≤ length answer) × (length message < message_size))) →
     HubHearsBlock control line gather answer message bytes 13 control line gather answer message (0 ∷ 0 ∷ 0 ∷ 0 ∷ [])
@@ -296,6 +303,10 @@ module _ {control buffer room message buffer' room' values : List ℕ} {code : �
   pub sender_starts : {control' : List ℕ} {r : ℕ} → refused ≡ false → PutsSender sent.sender control control' → OutcomeNumber sent.outcome r →
       SenderStarts control buffer room code message r control' buffer' room' values
   sender_starts e put told = start_leaves (put_back (sym is-refused.is ∙ e) (sender_kept put)) told
+
+pub sender_waits : {control : List ℕ} {s : Sender} {out : Bool} {r : ℕ} → sender_control_size ≤ length control → SenderIn control s → sending.Waits s out → r ≡ waits_number out →
+    SenderWaits control r
+sender_waits {out = out} c before-is waits e = record { asks = asks_enough (more c none) (record { out = out; waits = rw before-is.is at waits; told = e }) }
 
 pub sender_hears_lem : {control buffer room control' room' : List ℕ} {n r value : ℕ} {s : Sender} {h : Heard} {sent : Sending} →
     sender_control_size ≤ length control →
@@ -373,7 +384,21 @@ module _ {control line answers message answer copy : List ℕ} {n : ℕ} (c : re
             }));
       }
 
+pub reader_locked : {control : List ℕ} {number value : ℕ} {held : Bool} {before : Reader} → reader_control_size ≤ length control → ReaderIn control before →
+    settings.Locked before.device.table number held → value ≡ flag_byte held → ReaderLocked control number 0 value
+reader_locked {held = held} c before-is locked value =
+    record { asks = asks_enough (more c none) (record { held = held; locked = rw before-is.is at locked; value_is = value; told = refl }) }
+
+pub reader_switches : {control values : List ℕ} {before : Reader} → reader_control_size ≤ length control → ReaderIn control before → Switches before.device values →
+    ReaderSwitches control 0 values
+reader_switches c before-is switches = record { asks = asks_enough (more c none) (refl, switches.is ∙ rw before-is.is refl) }
+
 -- ---- the saved set
+
+pub reader_saves : {control room room' : List ℕ} {r size : ℕ} {made : Result ℕ Refusal} {before : Reader} → reader_control_size ≤ length control → ReaderIn control before →
+    saved.Saves before.device.table room made room' → packet.SizeOf made size → ResultNumber made 101 r → ReaderSaves control room r room' size
+reader_saves {made = made} c before-is saves size told =
+    record { asks = asks_enough (more c none) (record { made = made; saves = rw before-is.is at saves; told = told.is; value = size.is }) }
 
 pub settled_number_lem : (o : Settled) (taken : ℕ) → result_number (changed_of o) taken ≡ settled_number o taken
 unfolding changed_of

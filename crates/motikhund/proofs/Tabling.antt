@@ -2,7 +2,7 @@
 use Prim.Native.Nat.{ℕ, ◌≤◌}
 use mathlib.Core.Path.{◌≡◌, refl, sym, ap, ◌∙◌}
 use mathlib.Core.Bool.{Bool, true, false}
-use mathlib.Core.List.{List}
+use mathlib.Core.List.{List, [], ◌∷◌}
 use lib.ListN.{length}
 use Rattle.words.proofs.Lists.{never}
 use Rattle.packet.specs.declared.Refusal.TheVariants as refusal
@@ -15,12 +15,12 @@ use Rattle.std.proofs.Common.{Ok, Err}
 use Rattle.saved.specs.Promises as saved
 use Rattle.reader.specs.Promises as reading
 use Rattle.reader.specs.declared.Reader.{Reader}
-use Rattle.motikhund.specs.Lent.{none, more}
+use Rattle.motikhund.specs.Lent.{at_least, Lacking, none, more}
 use Rattle.motikhund.specs.Control.{reader_control_size, reader_in, ReaderIn, PutsReader}
 use Rattle.motikhund.specs.Numbers.{RefusalNumber, settled_number}
-use Rattle.motikhund.specs.Tables.{table_of, with_values, struct_after, all_allowed, reader_after, TableOf, WithValues, AllAllowed, SetsTable, PutsBack}
+use Rattle.motikhund.specs.Tables.{table_of, with_values, struct_after, all_allowed, reader_after, TableOf, WithValues, AllAllowed, SetsTable, TakesOut, PutsBack}
 use Rattle.motikhund.specs.declared.tables.MkTable.{MkTable}
-use Rattle.motikhund.proofs.Calls.{asks_enough, reader_kept, alone, put_back}
+use Rattle.motikhund.proofs.Calls.{asks_13, asks_enough, reader_kept, alone, put_back}
 
 -- ---- the table that a struct stands for
 
@@ -56,6 +56,9 @@ module _ {k : MkTable} {t : Table} {pairs : List ℕ} {forever : Bool} (stands :
       record { told = number.is ∙ d.0; is = d.1 }
 
 -- ---- from a reader and back
+
+pub out_13 : {control : List ℕ} {k : MkTable} → Lacking (at_least reader_control_size control ∷ []) → TakesOut control k 13 k
+out_13 lacks = record { asks = asks_13 lacks (refl, refl) }
 
 module _ {control : List ℕ} {k : MkTable} {sound : Bool} (c : reader_control_size ≤ length control) (allows : AllAllowed k sound) where
   pub back_refused : {r : ℕ} → sound ≡ false → RefusalNumber refusal.Setting r → PutsBack control k r control

@@ -1,7 +1,8 @@
 // The library for other languages: every machine over bytes and numbers. The caller keeps a control value as bytes (`control`),
 // what is told comes back as numbers (`numbers`), and no call trusts its caller: whatever is lent too small is number 13, with
 // nothing changed; a number that names no event or reply does nothing.
-// Numbers with a value beside them, and calls of one shape that are one for each control value, are the C interface, which may not change.
+// The shapes alike, four `_on` and `_idle`, three `_hear`, two `_start`, `_power_up` and `_value`, and the numbers with values beside them,
+// are the exported names of the C interface, which may not change.
 #![tactic(auto)]
 
 mod block;
@@ -15,7 +16,7 @@ ghost use Rattle.motikhund.specs.Tables.{SetsTable, DefaultsTable, PowersUpTable
 use control::{
     FRAMER_CONTROL_SIZE, GOING_SIZE, HUB_CONTROL_SIZE, READER_CONTROL_SIZE, SENDER_CONTROL_SIZE,
 };
-use numbers::{PACKET, WRITTEN};
+use numbers::{PACKET, WAITING, WRITTEN};
 use packet::Refusal;
 use tables::MkTable;
 
@@ -23,7 +24,8 @@ use tables::MkTable;
 const ROOM: u32 = Refusal::Room as u32;
 // More bytes than a call takes.
 const LONG: u32 = Refusal::Long as u32;
-// The largest numbers that name an event and a reply.
+// The largest numbers that name an event and a reply. A larger one names nothing: a call tests for it first and tells 0, so that
+// `numbers` has no case for it. `mk_go_on`, the short way, has no test: it takes such a number as a message gap, which it leaves.
 const LAST_EVENT: u32 = 257;
 
 const LAST_REPLY: u32 = 256;
@@ -66,7 +68,7 @@ pub extern "C" fn mk_answer(room: &mut [u8], source: u8, reply: u32, size: &mut 
         *size = 0;
         return ROOM;
     }
-    if LAST_REPLY < reply {
+    if reply > LAST_REPLY {
         *size = 0;
         return 0;
     }
@@ -103,7 +105,7 @@ pub extern "C" fn mk_framer_hear(
         *head = [0; 4];
         return ROOM;
     }
-    if LAST_EVENT < event {
+    if event > LAST_EVENT {
         *head = [0; 4];
         return 0;
     }
@@ -176,7 +178,7 @@ pub extern "C" fn mk_hub_hear(
         *values = [0; 3];
         return ROOM;
     }
-    if LAST_EVENT < event {
+    if event > LAST_EVENT {
         *values = [0; 3];
         return 0;
     }
@@ -215,7 +217,7 @@ pub extern "C" fn mk_hub_hear_block(
         *values = [0; 4];
         return ROOM;
     }
-    if hub::BLOCK_SIZE < bytes.len() {
+    if bytes.len() > hub::BLOCK_SIZE {
         *values = [0; 4];
         return LONG;
     }
@@ -258,10 +260,9 @@ pub extern "C" fn mk_sender_start(
     let sending = sender::start(control::sender(control), buffer, room, code, message);
     let outcome = sending.outcome;
     numbers::start_values(outcome, values);
-    if numbers::refused(outcome) {
-        return numbers::outcome(outcome);
+    if !numbers::refused(outcome) {
+        control::put_sender(sending.sender, control);
     }
-    control::put_sender(sending.sender, control);
     numbers::outcome(outcome)
 }
 
@@ -300,9 +301,10 @@ pub extern "C" fn mk_sender_waits(control: &[u8]) -> u32
         return ROOM;
     }
     if sender::waits(control::sender(control)) {
-        return 123;
+        WAITING
+    } else {
+        0
     }
-    0
 }
 
 // What a sender hears of a packet with these fields and data, as `mk_sender_hear` takes it.
@@ -361,10 +363,9 @@ pub extern "C" fn mk_reader_start(
     let started = reader::start(control::reader(control), message, copy, code, bytes);
     let outcome = started.outcome;
     numbers::start_values(outcome, values);
-    if numbers::refused(outcome) {
-        return numbers::outcome(outcome);
+    if !numbers::refused(outcome) {
+        control::put_reader(started.reader, control);
     }
-    control::put_reader(started.reader, control);
     numbers::outcome(outcome)
 }
 
@@ -410,7 +411,7 @@ pub extern "C" fn mk_reader_hear(
         *values = [0; 6];
         return ROOM;
     }
-    if LAST_EVENT < event {
+    if event > LAST_EVENT {
         *values = [0; 6];
         return 0;
     }
@@ -478,6 +479,7 @@ pub extern "C" fn mk_reader_load(control: &mut [u8], form: &[u8]) -> u32
     ensures { ReaderLoads control.old form.now result control.new }
 {
     if control.len() < READER_CONTROL_SIZE {
+        // A form that does not read is told before the room: 13 is what is left to tell where it reads.
         return numbers::told(saved::load(form), ROOM);
     }
     match reader::load(control::reader(control), form) {

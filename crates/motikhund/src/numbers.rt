@@ -10,8 +10,22 @@ use sender::{Heard, Outcome};
 pub(crate) const PACKET: u32 = 100;
 // Bytes were written.
 pub(crate) const WRITTEN: u32 = 101;
+// A piece of a message was added.
+const ADDED: u32 = 110;
+// A packet was a repeat of the last accepted one.
+const REPEATED: u32 = 111;
 // A message is complete.
 pub(crate) const MESSAGE: u32 = 112;
+// A copy stands in the room.
+const COPY: u32 = 120;
+// A message was delivered.
+const DELIVERED: u32 = 121;
+// A message failed.
+const FAILED: u32 = 122;
+// A message is out.
+pub(crate) const WAITING: u32 = 123;
+// A command was acted on.
+const ACTED: u32 = 130;
 
 // ---- what goes in
 
@@ -109,8 +123,8 @@ pub(crate) fn hub(told: hub::Told) -> u32
 {
     match told {
         hub::Told::Nothing => 0,
-        hub::Told::Added => 110,
-        hub::Told::Repeated => 111,
+        hub::Told::Added => ADDED,
+        hub::Told::Repeated => REPEATED,
         hub::Told::Message { .. } => MESSAGE,
         hub::Told::Refused(why) => refusal(why),
     }
@@ -132,9 +146,9 @@ pub(crate) fn outcome(outcome: Outcome) -> u32
 {
     match outcome {
         Outcome::Nothing => 0,
-        Outcome::Copy { .. } => 120,
-        Outcome::Delivered(_) => 121,
-        Outcome::Failed(_) => 122,
+        Outcome::Copy { .. } => COPY,
+        Outcome::Delivered(_) => DELIVERED,
+        Outcome::Failed(_) => FAILED,
         Outcome::Refused(why) => refusal(why),
     }
 }
@@ -184,8 +198,8 @@ pub(crate) fn reader(told: reader::Told, sent: Outcome) -> u32
     match told {
         reader::Told::Nothing => outcome(sent),
         reader::Told::Refused(why) => refusal(why),
-        reader::Told::Acted(_) => 130,
-        reader::Told::Repeated => 111,
+        reader::Told::Acted(_) => ACTED,
+        reader::Told::Repeated => REPEATED,
     }
 }
 
