@@ -8,12 +8,13 @@ use lib.ListN.{length, get_or, take}
 use lib.Seq.{get_or-take}
 use native.Mathlib.Omega.{arith}
 use Rattle.packet.proofs.Sums.{first_in_sum}
-use borrow.Author.Tests.{eq-eqb, ne_eqb, le-ltb}
+use borrow.Author.Tests.{eq-eqb, ne_eqb, le-ltb, lt-ltb}
 use Rattle.words.proofs.Lists.{either_true}
 use Rattle.packet.specs.Opcodes.{decode_data}
 use Rattle.packet.specs.Packet.{status_allowed, sum_of, check_of, checksum_of, checksum_in, body_in, head_in}
 use Rattle.packet.specs.Promises.{Complement, Check}
-use Rattle.std.specs.Prelude.{Ok}
+use Rattle.packet.specs.declared.Refusal.TheVariants.{Length}
+use Rattle.std.specs.Prelude.{Ok, Err}
 
 -- The more bit and the resend mark are all that a piece of a message may have.
 pub status_piece : (t : ℕ) → t < 4 → status_allowed decode_data t ≡ true
@@ -39,3 +40,8 @@ check_right {s} {n} {worked} first h l k e =
             eq-eqb (get_or s n 0 * 256 + get_or s (n + 1) 0) (65536 - sum_of (take n s)) due,
           );
     }
+
+-- A length below 4 is 1.
+pub check_short : {s : List ℕ} → (length s ≡ 0 → ⊥) → get_or s 0 0 < 4 → Check s (Err Length)
+unfolding check_of
+check_short {s} h l = record { is = simp (ne_eqb (length s) 0 h, lt-ltb (get_or s 0 0) 4 l) }

@@ -5,14 +5,14 @@ use mathlib.Core.Bool.{Bool, true, false}
 use mathlib.Core.List.{List, ◌∷◌, ◌++◌}
 use native.Mathlib.Omega.{arith}
 use native.Mathlib.Decide.{dec_lt}
-use lib.Dec.{eqb}
-use lib.ListN.{length, get_or, take, drop, set, length-set, length-take}
+use lib.Dec.{eqb, leb}
+use lib.ListN.{length, get_or, take, drop, set, length-set, length-take, get_or-eq_default}
 use lib.Seq.{set_split, set_out, set-set, get_or-set_same}
-use borrow.Author.Tests.{eq-eqb, ne_eqb, eqb-true, eqb-false}
+use borrow.Author.Tests.{eq-eqb, ne_eqb, eqb-true, eqb-false, lt-leb}
 use Rattle.words.specs.Lists.{both, same_bytes, Compared, pick}
 use Rattle.words.proofs.Lists.{same_refl, same_equal, other_length, same_append, rest_part}
-use Rattle.packet.specs.Packet.{unmarked, marked, equal_unmarked, body_of}
-use Rattle.packet.specs.Promises.{Equal}
+use Rattle.packet.specs.Packet.{unmarked, marked, equal_unmarked, resent_equal, body_of}
+use Rattle.packet.specs.Promises.{Equal, Resent}
 
 -- A body of four bytes or more: what stands before the status, the status without its mark, what stands behind it.
 pub unmarked_split : (b : List ℕ) → 4 ≤ length b → unmarked b ≡ take 3 b ++ (get_or b 3 0 / 2 * 2 ∷ drop 4 b)
@@ -58,6 +58,26 @@ module _ {a b : List ℕ} {r : Bool} (h : 4 ≤ length a) (e : length a ≡ leng
     equal_rest z k =
         let alike = eqb-true (get_or a 3 0 / 2) (get_or b 3 0 / 2) (sym q ∙ z) in
         record { is = (rw (rest_part 4 a, rest_part 4 b) at k.is) ∙ sym (equal_split a b h e ∙ simp (sym front.is ∙ f, eq-eqb (get_or a 3 0 / 2 * 2) (get_or b 3 0 / 2 * 2) (omega arith))) }
+
+-- A body that has a status byte has four bytes.
+pub never_short : {A : Type 0} {v : Bool} {n : ℕ} → v ≡ true → v ≡ leb 4 n → n < 4 → A
+never_short {v} {n} t f h = let e = sym t ∙ (f ∙ lt-leb 4 n h) in absurd (cc)
+
+-- A marked body is a resend where the comparison says so.
+pub resent_marked : {last body : List ℕ} {v r : Bool} → v ≡ eqb (get_or body 3 0 % 2) 1 → v ≡ true → Equal last body r → Resent last body r
+unfolding resent_equal equal_unmarked
+resent_marked q t e = record { is = e.is ∙ simp (sym q ∙ t) }
+
+-- One that is not marked is none, and one that is too short has no mark.
+pub resent_plain : {last body : List ℕ} {v : Bool} → v ≡ eqb (get_or body 3 0 % 2) 1 → v ≡ false → Resent last body v
+unfolding resent_equal
+resent_plain q f = record { is = f ∙ sym (simp (sym q ∙ f)) }
+
+pub resent_short : {last body : List ℕ} {v : Bool} → v ≡ leb 4 (length body) → length body < 4 → Resent last body v
+unfolding resent_equal
+resent_short {body = body} q h =
+    let none : get_or body 3 0 ≡ 0 = get_or-eq_default body 0 (omega arith) in
+    record { is = q ∙ (lt-leb 4 (length body) h ∙ sym (rw none refl)) }
 
 -- ---- the mark itself
 

@@ -7,15 +7,15 @@ use native.Mathlib.Omega.{arith}
 use lib.ListN.{length, take, drop, length-append, length-take, length-drop}
 use lib.Seq.{take-append-add}
 use lib.Dec.{leb, eqb}
-use borrow.Author.Tests.{leb-true, le-ltb}
+use borrow.Author.Tests.{leb-true, le-leb, le-ltb}
 use mathlib.Core.Bool.{Bool, true, false}
 use Rattle.words.specs.Lists.{pick, over, over_at}
 use Rattle.words.proofs.Lists.{over_over, over_over_at, length_over_at, take_over, drop_over_at, never}
 use Rattle.packet.specs.Opcodes.{cmd_ack, cmd_nak}
 use Rattle.packet.specs.Packet.{body_of, checksum_of, seal, status_allowed, source_allowed, fields_of, build_of, written, reply_data, reply_opcode, reply_body}
-use Rattle.packet.specs.Promises.{Fields, Headed, Sealed, Put, Fill, Answer, Naks}
+use Rattle.packet.specs.Promises.{AllowedSource, Allowed, Fields, Headed, Sealed, Build, Put, Fill, Answer, Naks}
 use Rattle.packet.specs.Refusals.{cause_of, nak_bytes, nak_of}
-use Rattle.packet.specs.Sizes.{answer_size}
+use Rattle.packet.specs.Sizes.{data_size, packet_size, answer_size}
 use Rattle.packet.specs.declared.Refusal.{Refusal}
 use Rattle.packet.specs.declared.Refusal.TheVariants.{Source, Status, Data}
 use Rattle.packet.specs.declared.Reply.{Reply}
@@ -50,6 +50,12 @@ small_by n size false b d e q = never (cc)
 pub fields_small : {o s t n size : ℕ} → Fields o s t n (Ok size) → Small n size
 unfolding fields_of
 fields_small {o} {s} {t} {n} {size} f = small_by n size (source_allowed s) (status_allowed o t) (leb n 251) refl (sym f.is)
+
+pub fields_right : {o s t n : ℕ} {a b : Bool} → AllowedSource s a → a ≡ true → Allowed o t b → b ≡ true → n ≤ data_size → Fields o s t n (Ok (n + 4 + 2))
+unfolding fields_of
+fields_right {n = n} a x b y h =
+    let six : n + 4 + 2 ≡ n + 6 = omega arith in
+    record { is = rw six (simp (sym a.is ∙ x, sym b.is ∙ y, le-leb n 251 h)) }
 
 -- ---- `fill`
 
@@ -152,3 +158,9 @@ module _ {room room' : List ℕ} {s : ℕ} {x : Refusal} {r : Result ℕ Refusal
       let b = built_nak room s x a h in
       let i = k.is in
       never (cc)
+
+-- ---- `build`
+
+-- With room for every packet, building says what `put` says.
+pub build_put : {room d room' : List ℕ} {o s t : ℕ} {r : Result ℕ Refusal} → packet_size ≤ length room → Put room o s t d r room' → Build room o s t d r room'
+build_put {room} {d} {o = o} {s} {t} h p = record { is = p.is ∙ sym (enough packet_size room o s t (length d) h); room_is = p.room_is }

@@ -1,5 +1,5 @@
 -- What the writer leaves in its room: one law for each `return`, and what its loops keep. Assumes nothing.
-use Prim.Native.Nat.{ℕ, suc, ◌+◌, ◌-◌, ◌≤◌, ◌<◌}
+use Prim.Native.Nat.{ℕ, suc, min, ◌+◌, ◌-◌, ◌≤◌, ◌<◌}
 use mathlib.Core.Path.{◌≡◌, refl, sym, ap, ◌∙◌}
 use mathlib.Core.Bool.{Bool, true, false}
 use mathlib.Core.List.{List, [], ◌∷◌, ◌++◌, append_assoc, append-nil}
@@ -18,7 +18,8 @@ use Rattle.table.specs.Table.{Values, value_of, numbers_of, pair_bytes}
 use Rattle.table.specs.Promises.{values_of, showing, AllPairs}
 use Rattle.table.specs.declared.Table.{Table}
 use Rattle.std.specs.Prelude.{Result, Ok, Err}
-use Rattle.table.proofs.Finding.{many, place_at, one_more, setting_at, setting_row}
+use Rattle.table.specs.declared.TheConstants.{SETTINGS}
+use Rattle.table.proofs.Finding.{many, settings_many, place_at, one_more, setting_at, setting_row}
 use Rattle.table.proofs.Answering.{length_all}
 use Rattle.saved.specs.Saved.{edition1, pairs_of, locks_of, lock_count, form_of, set_size}
 use Rattle.saved.specs.Promises.{Saves, Puts, PutsLocks, lock_bytes}
@@ -105,23 +106,30 @@ locking_more {locked} {room₀} {room} {count} {i} {count'} {room'} k h count_by
           (omega (arith, k.fits, k.long, k.few)) (length_locks1 (take i rows) locked ∙ sym k.count_is) k.is room_by);
     }
 
-module _ {locked : List Bool} {room₀ room : List ℕ} {count i : ℕ} (k : Locking locked room₀ room count i) (h : i < parameter_count) where
-  pub locking_one : get_or locked i false ≡ true → Locking locked room₀ (set room (count + 1) (get_or (setting_at i) 0 0)) (count + 1) (i + 1)
-  locking_one e =
-      let n : (get_or (setting_at i) 0 0) ≡ get_or (get_or rows i []) 0 0 = ap (λ (row : List ℕ). get_or row 0 0) (sym (setting_row i)) in
-      locking_more k (let m = many in omega arith) (rw e refl) (rw (e, n) refl)
+module _ {locked : List Bool} {room₀ room : List ℕ} {count i : ℕ} (k : Locking locked room₀ room count i) (h : i < length SETTINGS) where
+  pub locking_fits : count + 1 < length room
+  locking_fits = let m = settings_many in let n = many in omega (arith, k.fits, k.long, k.few)
 
-  pub locking_not : get_or locked i false ≡ false → Locking locked room₀ room count (i + 1)
-  locking_not e = locking_more k (let m = many in omega arith) (rw e (omega arith)) (rw e refl)
+  pub locking_one : {row : List ℕ} {j : ℕ} → j ≡ i + 1 → row ≡ setting_at i → get_or locked i false ≡ true → Locking locked room₀ (set room (count + 1) (get_or row 0 0)) (count + 1) j
+  locking_one {row} q r e =
+      let n : get_or row 0 0 ≡ get_or (get_or rows i []) 0 0 = ap (λ (row : List ℕ). get_or row 0 0) (r ∙ sym (setting_row i)) in
+      rw q (locking_more k (let s = settings_many in let m = many in omega arith) (rw e refl) (rw (e, n) refl))
+
+  pub locking_not : {j : ℕ} → j ≡ i + 1 → get_or locked i false ≡ false → Locking locked room₀ room count j
+  locking_not q e = rw q (locking_more k (let s = settings_many in let m = many in omega arith) (rw e (omega arith)) (rw e refl))
+
+pub locking_few : {locked : List Bool} {room₀ room : List ℕ} {count i : ℕ} → Locking locked room₀ room count i → count ≤ parameter_count
+locking_few k = let m = many in omega (arith, k.few, k.at)
 
 first_byte : (count : ℕ) (locks room : List ℕ) → 0 < length room → set (over (take 1 room ++ locks) room) 0 count ≡ over (count ∷ locks) room
 unfolding over
 first_byte count locks [] h = absurd (omega arith)
 first_byte count locks (x ∷ xs) h = refl
 
-pub locking_all : {locked : List Bool} {room₀ room : List ℕ} {count i : ℕ} → Locking locked room₀ room count i → parameter_count ≤ i → PutsLocks locked room₀ (count + 1) (set room 0 count)
-locking_all {locked} {room₀} {room} {count} {i} k h =
-    let whole = take_all i rows (let m = many in omega arith) in
+pub locking_all : {locked : List Bool} {room₀ room : List ℕ} {count i : ℕ} → Locking locked room₀ room count i → length locked ≡ parameter_count → i ≡ min (length SETTINGS) (length locked) →
+    PutsLocks locked room₀ (count + 1) (set room 0 count)
+locking_all {locked} {room₀} {room} {count} {i} k l h =
+    let whole = take_all i rows (let m = many in let s = settings_many in omega arith) in
     let count_is : count ≡ lock_count rows locked = k.count_is ∙ rw whole refl in
     let l = length_locks1 rows locked in
     let m = count_most rows locked in

@@ -74,8 +74,8 @@ fn put_locks(locked: [bool; PARAMETER_COUNT], room: &mut [u8]) -> usize
     ensures { PutsLocks locked room.old result room.new }
 {
     let mut count = 0;
-    for (i, &[number, ..]) in SETTINGS.iter().enumerate() {
-        if locked[i] {
+    for (&[number, ..], &here) in SETTINGS.iter().zip(&locked) {
+        if here {
             count += 1;
             room[count] = number;
         }
@@ -133,7 +133,7 @@ fn exact(set: Table, form: &[u8]) -> bool
 {
     let mut again = [0; SET_SIZE];
     let count = put(set, &mut again);
-    words::same(form, &again[..count]) && all_allowed(set.permanent)
+    form == &again[..count] && all_allowed(set.permanent)
 }
 
 // Whether every value is one that its parameter takes.

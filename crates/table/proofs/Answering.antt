@@ -4,6 +4,7 @@ use Prim.Native.Nat.{ℕ, zero, suc, ◌+◌, ◌-◌, ◌*◌, ◌≤◌, ◌<�
 use mathlib.Core.Path.{◌≡◌, refl, sym, ap, ◌∙◌}
 use mathlib.Core.Bool.{Bool, true, false, not, ◌||◌}
 use mathlib.Core.List.{List, [], ◌∷◌, ◌++◌, append_assoc}
+use native.Mathlib.Nat.{zero-add}
 use native.Mathlib.Numerals.{add-one}
 use native.Mathlib.Omega.{arith}
 use lib.Dec.{eqb, ltb}
@@ -14,12 +15,16 @@ use Rattle.words.specs.Lists.{pick, both, either, over, over_at, Copied}
 use Rattle.words.proofs.Lists.{copied_over, length_over_at, part_over, set_over, both_left, both_right, never, either_true, over_behind}
 use Rattle.packet.specs.declared.Refusal.TheVariants.{Room}
 use Rattle.std.specs.Prelude.{Some, None, Ok, Err}
-use Rattle.std.specs.List.{list_any}
+use Rattle.std.specs.List.{list_any, zip, enumerate_from}
+use Rattle.std.proofs.lemmas.List.{get_or_default}
+use Rattle.std.proofs.lemmas.Slice.Zip.{length-zip, get_or-zip}
+use Rattle.std.proofs.lemmas.List.FromFn.{length-enumerate_from, get_or-enumerate_from}
 use Rattle.table.specs.Rows.{parameter_count, pairs_size, rows, place_of, supported}
 use Rattle.table.specs.Table.{Values, value_of, member, asked_for, numbers_of, answered_numbers, pair_bytes, answer_data}
 use Rattle.table.specs.Promises.{Answers, Place, AllPairs, AskedPairs, Fits, Asks, asks, marks, showing, values_of}
 use Rattle.table.specs.declared.Table.{Table}
-use Rattle.table.proofs.Finding.{many, setting_at, setting_row, place_at, same_place, found_at, not_found}
+use Rattle.table.specs.declared.TheConstants.{SETTINGS}
+use Rattle.table.proofs.Finding.{many, settings_many, setting_at, setting_row, place_at, same_place, found_at, not_found}
 
 -- FEh anywhere in the list, as the library's `contains` looks for it.
 or_either : (a b : Bool) → a || b ≡ either a b
@@ -120,6 +125,31 @@ listing_all {values} {bytes} {i} k h =
     let m = many in
     let l = length_numbers rows in
     record { is = sym (take_all (2 * i) bytes (omega (arith, k.long))) ∙ (k.is ∙ ap (pair_bytes (showing values)) (take_all i (numbers_of rows) (omega arith))) }
+
+-- What a turn of the loop is handed: the place, the row and the value that stand there.
+module _ (values : List ℕ) (l : length values ≡ parameter_count) where
+  pub turns_many : length (enumerate_from 0 (zip SETTINGS values)) ≡ parameter_count
+  turns_many = length-enumerate_from 0 (zip SETTINGS values) ∙ (length-zip SETTINGS values ∙ (let m = settings_many in omega arith))
+
+  pub turn_at : (k i v : ℕ) (row : List ℕ) → k < parameter_count → (i, (row, v)) ≡ get_or (enumerate_from 0 (zip SETTINGS values)) k (i, (row, v)) →
+      (i ≡ k) × (row ≡ setting_at k) × (v ≡ get_or values k 0)
+  turn_at k i v row h e =
+      let m = settings_many in
+      let n = turns_many in
+      let z = length-zip SETTINGS values in
+      let p = e ∙ (get_or-enumerate_from 0 (zip SETTINGS values) k (i, (row, v)) (omega arith) ∙ ap (λ q. (0 + k, q)) (get_or-zip SETTINGS values k (row, v) (omega arith) (omega arith))) in
+      (ap (λ q. q.0) p ∙ zero-add k, ap (λ q. q.1.0) p ∙ get_or_default SETTINGS k row [] (omega arith), ap (λ q. q.1.1) p ∙ get_or_default values k v 0 (omega arith))
+
+pub listing_turn : {A : Type 0} {values bytes row : List ℕ} {i v : ℕ} (xs : List A) (x : A) → length values ≡ parameter_count → Listing values bytes (length xs) →
+    length xs < length (enumerate_from 0 (zip SETTINGS values)) → (i, (row, v)) ≡ get_or (enumerate_from 0 (zip SETTINGS values)) (length xs) (i, (row, v)) →
+    Listing values (set (set bytes (2 * i) (get_or row 0 0)) (2 * i + 1) v) (length (xs ++ (x ∷ [])))
+listing_turn {values} {row = row} {i} {v} xs x l k h e =
+    let n = turns_many values l in
+    let t = turn_at values l (length xs) i v row (omega arith) e in
+    rw (length-append xs (x ∷ []), t.0, t.1, t.2) (listing_more k (omega arith))
+
+pub listing_end : {values bytes : List ℕ} {k : ℕ} → length values ≡ parameter_count → Listing values bytes k → k ≡ length (enumerate_from 0 (zip SETTINGS values)) → AllPairs values bytes
+listing_end {values} l k e = let n = turns_many values l in listing_all k (omega arith)
 
 -- ---- `ask`
 

@@ -41,6 +41,9 @@ pub settings_rows : SETTINGS ≡ rows
 unfolding rows
 settings_rows = refl
 
+pub settings_many : length SETTINGS ≡ parameter_count
+settings_many = ap length settings_rows ∙ many
+
 -- The row at a place.
 abbrev pub setting_at : ℕ → List ℕ
 setting_at i = get_or SETTINGS i []

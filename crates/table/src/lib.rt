@@ -14,7 +14,7 @@ pub const PARAMETER_COUNT: usize = 9;
 pub const PAIRS_SIZE: usize = 1 + 2 * PARAMETER_COUNT;
 
 // The allowed settings, a row for each parameter in rising order: its number, lowest, highest, house default.
-// stays: an array of arrays, the form that docs/PROTOCOL.md, section 18, names for it.
+// The rules (docs/PROTOCOL.md, section 18) ask for an array of arrays.
 pub const SETTINGS: [[u8; 4]; PARAMETER_COUNT] = [
     [0x80, 0, 1, 0],
     [0x89, 0, 99, 10],
@@ -34,7 +34,7 @@ const ALL: u8 = 0xFE;
 const TRIGGER: u8 = 0x8A;
 
 // Which parameters are locked, and their present and permanent values, in the order of the settings.
-// stays: three arrays, not an array of rows; the control bytes and C's mk_table have them so.
+// It has three arrays, because the control bytes and C's mk_table have three rows of nine.
 #[derive(Clone, Copy)]
 pub struct Table {
     pub locked: [bool; PARAMETER_COUNT],
@@ -79,6 +79,7 @@ fn restored(locked: [bool; PARAMETER_COUNT], values: [u8; PARAMETER_COUNT]) -> [
 pub fn power_up(table: Table) -> Table
     ensures { PowerUp table result }
 {
+    // The prover takes no array straight from another value's field into a literal, so a local carries it.
     let values = table.permanent;
     Table {
         present: values,
@@ -128,7 +129,7 @@ fn change(table: Table, pairs: &[[u8; 2]], permanent: bool) -> Table
     next
 }
 
-// The present value of a parameter; 0 where it is not supported.
+// The present value of a parameter. Where it is not supported the promise `Value` gives 0, which mk_reader_value tells.
 pub fn value(table: Table, number: u8) -> u8
     ensures { Value table number result }
 {
@@ -169,9 +170,9 @@ pub fn all_pairs(values: [u8; PARAMETER_COUNT]) -> [u8; 2 * PARAMETER_COUNT]
     ensures { AllPairs values result }
 {
     let mut pairs = [0; 2 * PARAMETER_COUNT];
-    for (i, &[number, ..]) in SETTINGS.iter().enumerate() {
+    for (i, (&[number, ..], &value)) in SETTINGS.iter().zip(&values).enumerate() {
         pairs[2 * i] = number;
-        pairs[2 * i + 1] = values[i];
+        pairs[2 * i + 1] = value;
     }
     pairs
 }
@@ -190,6 +191,7 @@ fn asked_pairs(values: [u8; PARAMETER_COUNT], asked: &[u8], room: &mut [u8]) -> 
 }
 
 // One number asked for: its pair behind those before it, unless it is unsupported or has been answered.
+// It takes five parameters, because the loop's body then has a contract of its own.
 fn ask(
     seen: &mut [bool; PARAMETER_COUNT],
     at: usize,
@@ -251,7 +253,7 @@ pub fn allowed(number: u8, value: u8) -> bool
     }
 }
 
-// Whether the parameter of a row takes the value.
+// Whether the parameter of a row takes the value. A value outside leaves first, because one chain of tests did not prove.
 fn takes(row: [u8; 4], value: u8) -> bool
     ensures { Takes row value result }
 {
@@ -269,7 +271,7 @@ fn trigger_allowed(value: u8) -> bool
     matches!(value, 0 | 2 | 4 | 7 | 8)
 }
 
-// Where a parameter stands among the settings.
+// Where a parameter stands among the settings. Its callers match on it, because a closure's bound would be a goal of its own.
 fn place(number: u8) -> Option<usize>
     ensures { Place number result }
 {
