@@ -1,4 +1,4 @@
--- The status of a piece, and a packet that the check finds. Assumes nothing.
+-- The status of a piece, a packet that the check finds, and a length that it refuses. Assumes nothing.
 use Prim.Native.Nat.{ℕ, ◌+◌, ◌-◌, ◌*◌, ◌/◌, ◌%◌, ◌≤◌, ◌<◌}
 use mathlib.Core.Path.{◌≡◌, sym}
 use mathlib.Core.Bool.{true}

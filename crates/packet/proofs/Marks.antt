@@ -1,4 +1,4 @@
--- The comparison apart from the resend mark, taken apart where the code looks. Assumes nothing.
+-- The comparison apart from the resend mark, taken apart where the code looks, and what a resend is. Assumes nothing.
 use Prim.Native.Nat.{ℕ, ◌+◌, ◌-◌, ◌*◌, ◌/◌, ◌%◌, ◌≤◌, ◌<◌}
 use mathlib.Core.Path.{◌≡◌, refl, sym, ap, ◌∙◌}
 use mathlib.Core.Bool.{Bool, true, false}

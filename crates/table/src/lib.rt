@@ -253,7 +253,7 @@ pub fn allowed(number: u8, value: u8) -> bool
     }
 }
 
-// Whether the parameter of a row takes the value. A value outside leaves first, because one chain of tests did not prove.
+// Whether the parameter of a row takes the value. A value outside leaves first: one chain of tests leaves a goal over the joined test.
 fn takes(row: [u8; 4], value: u8) -> bool
     ensures { Takes row value result }
 {
