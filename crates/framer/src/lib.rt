@@ -39,6 +39,7 @@ pub enum Found {
     Refused(Refusal),
 }
 
+// A struct of its own, as `Listened` is, so that names say which of the two is read.
 #[derive(Clone, Copy)]
 pub struct Framed {
     pub framer: Framer,

@@ -163,7 +163,7 @@ fn happen(hub: Hub, buffers: &mut Buffers, event: Event, page: &mut Page) -> Lis
     }
 }
 
-// The message first, then the answer.
+// The message first, then the answer. The count goes beside the room, as the hub tells it: the promise names the room whole.
 fn put_lines(
     told: Told,
     count: usize,

@@ -34,12 +34,13 @@ pub(crate) fn read(
     ensures { ReadsBytes control.old line.old gather.old answer.old message.old bytes.now result control.new line.new gather.new answer.new message.new }
 {
     let mut told: u32 = 0;
+    // Answer, code type and size of the message, as `mk_hub_hear` gives them.
     let mut one: [usize; 3] = [0; 3];
     let mut code = 0;
     let mut count = 0;
     let mut at = 0;
     let mut out = 0;
-    // A while, since the place goes on by as many bytes as are carried, and is told.
+    // Two loops, left by a label, are the form that docs/PROTOCOL.md, §18, asks for; the place goes on by as many bytes as are carried, and is told.
     'packets: while at < bytes.len() {
         loop {
             at += carry(control, line, &bytes[at..]);
@@ -93,7 +94,7 @@ fn carry(control: &mut [u8], line: &mut [u8; framer::LINE_SIZE], bytes: &[u8]) -
     taken.count
 }
 
-// What a block tells by name: a message, and refusals 1 and 2.
+// What a block tells by name: a message, and refusals 1 and 2, as `mk_hub_hear` told their numbers.
 fn named(before: u32, number: u32) -> u32
     ensures { NamesNumber before number result }
 {

@@ -61,8 +61,8 @@ pub const READER_CONTROL_SIZE: usize = READER_SENDER + SENDER_CONTROL_SIZE;
 
 // Here and below each function asks for its own size of a slice: as an array, each part would be cut out by an Option that is never None.
 
-// `part` and `put` are loops, since copy_from_slice is C's memmove, which the archive must not need; inlined, it first compares the addresses,
-// and the code of a table is five times as long.
+// `part` and `put` are loops: copy_from_slice, inlined here, first compares the addresses, and the code of a table is five times as long; not
+// inlined it calls C's memmove, which the archive must not need.
 fn part<const N: usize>(s: &[u8]) -> [u8; N]
     requires { N ≤ length s.now }
     ensures { PartOf N s.now result }
@@ -292,7 +292,8 @@ fn put_device(device: Device, room: &mut [u8])
     put(&flags, &mut room[TABLE_SIZE..]);
 }
 
-// What is switched on: scanning, session, aim, LED.
+// What is switched on: scanning, session, aim, LED. The same four as in `put_device`, but as `mk_reader_switches` gives them: a function over
+// both types would be longer than the lists.
 pub(crate) fn switches(device: Device, values: &mut [usize; 4])
     ensures { Switches device values.new }
 {

@@ -1,8 +1,9 @@
 // The library for other languages: every machine over bytes and numbers. The caller keeps a control value as bytes (`control`),
 // what is told comes back as numbers (`numbers`), and no call trusts its caller: whatever is lent too small is number 13, with
 // nothing changed; a number that names no event or reply does nothing.
-// The shapes alike, four `_on` and `_idle`, three `_hear`, two `_start`, `_power_up` and `_value`, and the numbers with values beside them,
-// are the exported names of the C interface, which may not change.
+// The shapes alike (four `_on` and `_idle`, four `_hear`, two `_start`, two `_power_up`, `_value` and `_locked`), and the numbers with values
+// beside them, are the exported names of the C interface, which may not change. Each call sets its values to 0 by itself where it refuses: one
+// function for it would need a const parameter and save a line.
 #![tactic(auto)]
 
 mod block;
@@ -129,6 +130,7 @@ pub extern "C" fn mk_go_on(
     ensures { GoesOn control.old line.old event result control.new line.new }
 {
     let before = control::framer(control);
+    // Any other byte is a flag that does not hold, as in `control`.
     let second = control[FRAMER_CONTROL_SIZE] == 1;
     match framer::go_on(before, second, line, numbers::event(event)) {
         framer::Going::On(count) => {

@@ -107,10 +107,11 @@ pub enum Reply {
 pub fn number(refusal: Refusal) -> u8
     ensures { Number refusal result }
 {
+    // A discriminant is read by `as` alone.
     refusal as u8
 }
 
-// The cause of the NAK that answers it. The rules' table prints 0 where nothing goes out, so this does too.
+// The cause of the NAK that answers it. The definition `cause_of` is 0 where nothing goes out, so this is a number too.
 pub fn cause(refusal: Refusal) -> u8
     ensures { Cause refusal result }
 {
@@ -182,7 +183,7 @@ pub fn data_part(s: &[u8]) -> &[u8]
     &s[HEAD_SIZE..end]
 }
 
-// Whether these status bits are allowed with this opcode.
+// Whether these status bits are allowed with this opcode. Bits are read by division, as the definitions read them (`more_bit`).
 #[tactic(auto, unfolding(crate::specs::Packet::status_allowed))]
 pub fn status_allowed(opcode: u8, status: u8) -> bool
     ensures { Allowed opcode status result }
@@ -225,6 +226,7 @@ fn header(room: &mut [u8], opcode: u8, source: u8, status: u8, n: usize)
     requires { (n ≤ data_size) × (head_size ≤ length room.old) }
     ensures { Headed room.old opcode source status n room.new }
 {
+    // The length is at most 255.
     room[..HEAD_SIZE].copy_from_slice(&[(n + HEAD_SIZE) as u8, opcode, source, status]);
 }
 

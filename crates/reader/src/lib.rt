@@ -53,13 +53,15 @@ pub struct Taken {
     pub outcome: Outcome,
 }
 
+// A struct of its own, so that names say which of the two is read.
 #[derive(Clone, Copy)]
 pub struct Started {
     pub reader: Reader,
     pub outcome: Outcome,
 }
 
-// A packet that came, and the last accepted one.
+// A packet that came, and the last accepted one. As the hub's, but without the head, so that its fact is a length alone: the three fields that
+// are judged are read at their places in the body.
 #[derive(Clone, Copy)]
 struct Packets<'a> {
     body: &'a [u8],
@@ -76,6 +78,7 @@ struct Core {
     sender: Sender,
 }
 
+// What `Taken` tells, before the line is put back to the core.
 #[derive(Clone, Copy)]
 struct Stepped {
     told: Told,
@@ -243,7 +246,7 @@ fn quiet(reader: Reader, halves: Halves) -> Taken
     }
 }
 
-// Any control value is taken: an answer longer than its buffer is none.
+// Any control value is taken: an answer longer than its buffer is none. The framer and the hub do so of their lengths, each by its own limit.
 fn sound_core(reader: Reader) -> Core
     ensures { SoundCore reader result }
 {

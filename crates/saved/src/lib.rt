@@ -65,7 +65,7 @@ fn put_front(room: &mut [u8])
     ensures { Over (1 ∷ length rows ∷ []) room.old room.new }
 {
     room[0] = EDITION;
-    room[1] = PARAMETER_COUNT as u8;
+    room[1] = PARAMETER_COUNT as u8; // nine
 }
 
 // How many are locked and their numbers; how many bytes that is.
@@ -80,7 +80,7 @@ fn put_locks(locked: [bool; PARAMETER_COUNT], room: &mut [u8]) -> usize
             room[count] = number;
         }
     }
-    room[0] = count as u8;
+    room[0] = count as u8; // at most nine
     count + 1
 }
 

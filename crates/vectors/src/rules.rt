@@ -75,7 +75,8 @@ fn listed(rt: &impl Print, t: &mut Tally, word: &str, rows: &[(u8, u8)]) {
     t.end(rt);
 }
 
-// A first byte below 4 is refused at once, also where the sum of that many bytes is right; 4 is the least length.
+// A first byte below 4 is refused at once, also where the sum of that many bytes is right; 4 is the least length. Calls, here and below, one
+// vector to a line.
 fn lengths(rt: &impl Print, t: &mut Tally) {
     front(rt, t, b"", Some(3));
     front(rt, t, b"\x00", Some(1));

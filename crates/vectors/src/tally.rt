@@ -1,4 +1,5 @@
-// The count of comparisons, and the bytes of the lines. Where a write fails nobody is left to be told.
+// The count of comparisons, and the bytes of the lines. Where a write fails nobody is left to be told. Most functions take both `rt` and the tally;
+// what only counts takes the tally and what only prints takes `rt`, so the two are no struct.
 
 // How many comparisons were made, how many of them found something else than is due, and how many of these before the line began.
 #[derive(Clone, Copy)]

@@ -119,12 +119,14 @@ pub(crate) fn say_size(rt: &impl Print, n: usize) {
 // Longer than any packet and any room that is lent, so that the bytes behind them can be looked at.
 pub(crate) type Buffer = [u8; 300];
 
-// A buffer that nothing has written: 255 and downwards, so that a byte that was only moved is seen too.
+// A buffer that nothing has written: 255 and downwards, so that a byte that was only moved is seen too. What is left of a division by 256 is
+// a byte.
 pub(crate) fn unwritten() -> Buffer {
     std::array::from_fn(|i| 255 - (i % 256) as u8)
 }
 
-// Whether these bytes stand at the front of the buffer, and nothing behind them was written.
+// Whether these bytes stand at the front of the buffer, and nothing behind them was written. `words::copy` copies what fits, so that nothing is
+// asked of the lengths.
 fn stands(buffer: &Buffer, written: &[u8]) -> bool {
     let mut due = unwritten();
     words::copy(written, &mut due);

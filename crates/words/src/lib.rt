@@ -1,5 +1,5 @@
-// Three small functions over the library's, with contracts that the crates above cite: a byte as a count, bytes copied to the front
-// of a room, and a comparison.
+// Bytes copied to the front of a room, as the crates above call it; and the library's conversion of a byte and its comparison in the words
+// of our definitions, which no code calls any more.
 #![tactic(auto)]
 
 ghost use Rattle.words.specs.Lists.{Wide, Copied, Compared};
