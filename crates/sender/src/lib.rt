@@ -111,8 +111,8 @@ pub fn start(
 }
 
 // One thing heard of the host.
-// Here and in what it calls a choice of a value is an early return too: `else` was tried, and cost a reader's event 16 bytes of stack, which
-// took it over its bar of 640.
+// Here and in what it calls a choice of a value is an early return too: `else` was tried, and cost a reader's event 16 bytes of stack, of
+// which it takes more than is wanted already.
 pub fn hear(sender: Sender, buffer: &[u8; MESSAGE_SIZE], room: &mut [u8], heard: Heard) -> Sending
     ensures { Hears sender buffer.now room.old heard result room.new }
 {
