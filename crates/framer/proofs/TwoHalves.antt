@@ -94,6 +94,14 @@ other_back true buffer half n long size h =
     take-append-le n (take packet_size buffer) (half ++ drop packet_size (drop packet_size buffer)) (simp length-take (omega arith)) ∙ take-take n packet_size buffer h
 other_back false buffer half n long size h = rw (drop_at half (drop packet_size buffer) packet_size size) refl
 
+-- So many bytes are kept.
+pub length_kept : (h : Halves) (buffer : List ℕ) → length buffer ≡ line_size → length (kept_in h buffer) ≡ last_of h
+unfolding kept_in
+length_kept h buffer long =
+    let p = place_most (not h.second) in
+    let m = last_most h in
+    simp (length-take, length-drop) (omega arith)
+
 pub kept_accepted : (h : Halves) (buffer : List ℕ) (n : ℕ) → n ≤ body_size → kept_in (accepted_of h n) buffer ≡ received_in h buffer n
 unfolding kept_in received_in
 kept_accepted h buffer n l = simp (last_small (accepted_of h n) l, not_not h.second, le-leb n packet_size (omega arith))

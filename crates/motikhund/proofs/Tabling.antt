@@ -7,11 +7,12 @@ use lib.ListN.{length}
 use Rattle.words.proofs.Lists.{never}
 use Rattle.packet.specs.declared.Refusal.TheVariants as refusal
 use Rattle.table.specs.Table.{Outcome as Settled, done, refused, read_pairs, set_pairs}
-use Rattle.table.specs.Promises.{values_of, table_of as table_of_values, changed_of, Sets}
+use Rattle.table.specs.Promises.{values_of, changed_of, left_of, Sets}
 use Rattle.table.specs.declared.Table.{Table}
+use Rattle.table.proofs.Theorems.{refused_changes_nothing}
 use Rattle.packet.specs.Refusals.{number_of}
 use Rattle.packet.specs.declared.Refusal.{Refusal}
-use Rattle.std.proofs.Common.{Ok, Err}
+use Rattle.std.proofs.Common.{Result, Ok, Err}
 use Rattle.saved.specs.Promises as saved
 use Rattle.reader.specs.Promises as reading
 use Rattle.reader.specs.declared.Reader.{Reader}
@@ -34,15 +35,23 @@ not_allowed p e = record { is = e ∙ sym (simp (sym p.is ∙ e)) }
 
 -- ---- the calls in place
 
+-- The struct with what a list leaves its caller by value: the new values, or its own where the list is refused.
+settled : (k : MkTable) (o : Settled) → with_values k (values_of (left_of (table_of k) (changed_of o))) ≡ struct_after k o
+unfolding changed_of left_of struct_after
+settled k (done v) = refl
+settled k (refused x) = ap (λ (t : Table). with_values k (values_of t)) (refused_changes_nothing (table_of k) x)
+
 done_set : (k : MkTable) (o : Settled) {next : Table} → Ok next ≡ changed_of o → (0 ≡ settled_number o 0) × (with_values k (values_of next) ≡ struct_after k o)
-unfolding changed_of struct_after
-done_set k (done v) {next} q = let e : next ≡ table_of_values v = cc in (refl, rw e refl)
+unfolding changed_of left_of
+done_set k (done v) q = (refl, ap (λ (r : Result Table Refusal). with_values k (values_of (left_of (table_of k) r))) q ∙ settled k (done v))
 done_set k (refused x) q = never (cc)
 
 refused_set : (k : MkTable) (o : Settled) {x : Refusal} → Err x ≡ changed_of o → (number_of x ≡ settled_number o 0) × (k ≡ struct_after k o)
-unfolding changed_of struct_after
+unfolding changed_of left_of
 refused_set k (done v) q = never (cc)
-refused_set k (refused y) {x} q = let e : x ≡ y = cc in (ap number_of e, refl)
+refused_set k (refused y) {x} q =
+    let e : x ≡ y = cc in
+    (ap number_of e, ap (λ (r : Result Table Refusal). with_values k (values_of (left_of (table_of k) r))) q ∙ settled k (refused y))
 
 module _ {k : MkTable} {t : Table} {pairs : List ℕ} {forever : Bool} (stands : TableOf k t) where
   pub pairs_set : {next : Table} {r : MkTable} → Sets t pairs forever (Ok next) → WithValues k next r → SetsTable k pairs forever 0 r

@@ -1,5 +1,5 @@
 -- What header and checksum leave in the room, and how they make a packet around its data. Assumes nothing.
-use Prim.Native.Nat.{ℕ, ◌+◌, ◌/◌, ◌%◌, ◌≤◌}
+use Prim.Native.Nat.{ℕ, ◌+◌, ◌/◌, ◌%◌, ◌<◌, ◌≤◌}
 use mathlib.Core.Path.{◌≡◌, refl, sym, ap, ◌∙◌}
 use mathlib.Core.List.{List, [], ◌∷◌, ◌++◌}
 use native.Mathlib.Nat.{add_comm}
@@ -7,7 +7,7 @@ use native.Mathlib.Omega.{arith}
 use lib.ListN.{length, take, drop, length-append, length-take, length-drop}
 use lib.Seq.{take-append-add}
 use lib.Dec.{leb, eqb}
-use borrow.Author.Tests.{leb-true, le-leb, le-ltb}
+use borrow.Author.Tests.{leb-true, lt-ltb, le-leb, le-ltb}
 use mathlib.Core.Bool.{Bool, true, false}
 use Rattle.words.specs.Lists.{pick, over, over_at}
 use Rattle.words.proofs.Lists.{over_over, over_over_at, length_over_at, take_over, drop_over_at, never}
@@ -17,7 +17,7 @@ use Rattle.packet.specs.Promises.{AllowedSource, Allowed, Fields, Headed, Sealed
 use Rattle.packet.specs.Refusals.{cause_of, nak_bytes, nak_of}
 use Rattle.packet.specs.Sizes.{data_size, packet_size, answer_size}
 use Rattle.packet.specs.declared.Refusal.{Refusal}
-use Rattle.packet.specs.declared.Refusal.TheVariants.{Source, Status, Data}
+use Rattle.packet.specs.declared.Refusal.TheVariants.{Source, Status, Data, Room}
 use Rattle.packet.specs.declared.Reply.{Reply}
 use Rattle.packet.specs.declared.Reply.TheVariants.{Ack, Nak}
 use Rattle.std.specs.Prelude.{Result}
@@ -63,6 +63,10 @@ fields_right {n = n} a x b y h =
 pub enough : (need : ℕ) (room : List ℕ) (o s t n : ℕ) → need ≤ length room → build_of need room o s t n ≡ fields_of o s t n
 unfolding build_of
 enough need room o s t n h = simp (le-ltb (length room) need h)
+
+pub too_little : (need : ℕ) (room : List ℕ) (o s t n : ℕ) → length room < need → build_of need room o s t n ≡ Err Room
+unfolding build_of
+too_little need room o s t n h = simp (lt-ltb (length room) need h)
 
 -- The header's four bytes and the data behind them are the body.
 around : (room : List ℕ) (o s t n : ℕ) → n + 6 ≤ length room → take (n + 4) (over ((n + 4) ∷ o ∷ s ∷ t ∷ []) room) ≡ body_of o s t (take n (drop 4 room))

@@ -31,6 +31,13 @@ pub record Full (e : Edition) (t : Values) : Type 0 where
 -- ---- one row more
 
 module _ (e : Edition) where
+  pub pairs_snoc : (table : List (List ℕ)) (row values : List ℕ) →
+      pairs_of e (table ++ (row ∷ [])) values ≡ pairs_of e table values ++ (e.written (get_or row 0 0) ++ (get_or values (length table) 0 ∷ []))
+  unfolding pairs_of
+  pairs_snoc [] row values = refl
+  pairs_snoc (r ∷ rest) row values =
+      rw (pairs_snoc rest row (drop 1 values), get_or-drop 1 values (length rest) 0, one_more (length rest), append_assoc) refl
+
   pub locks_snoc : (table : List (List ℕ)) (row : List ℕ) (locked : List Bool) →
       locks_of e (table ++ (row ∷ [])) locked ≡ locks_of e table locked ++ pick (get_or locked (length table) false) (e.written (get_or row 0 0)) []
   unfolding locks_of

@@ -113,6 +113,9 @@ pub fn start(
 // One thing heard of the host.
 // Here and in what it calls a choice of a value is an early return too: `else` was tried, and cost a reader's event 16 bytes of stack, of
 // which it takes more than is wanted already.
+// The hint puts it into `mk_reader_time_out`, where only a time-out is heard and the other ways fall away: as a call it takes up to twice the
+// time there, and 376 bytes of stack in place of 104. Where anything may be heard it stays a call.
+#[inline]
 pub fn hear(sender: Sender, buffer: &[u8; MESSAGE_SIZE], room: &mut [u8], heard: Heard) -> Sending
     ensures { Hears sender buffer.now room.old heard result room.new }
 {

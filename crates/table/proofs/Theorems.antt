@@ -1,7 +1,7 @@
 -- The theorems over the table's definitions: what a list of settings changes and what it leaves, that every value stays allowed and what is
 -- locked is kept, and what an answer names. Assumes nothing.
 use Prim.Native.Nat.{ℕ, zero, suc, ◌≤◌, ◌<◌}
-use mathlib.Core.Path.{◌≡◌, refl, sym, ◌∙◌}
+use mathlib.Core.Path.{◌≡◌, refl, sym, ap, ◌∙◌}
 use mathlib.Core.Bool.{Bool, true, false, not}
 use mathlib.Core.List.{List, [], ◌∷◌, ◌++◌}
 use mathlib.Core.Logic.{◌⊎◌, inl, inr}
@@ -15,8 +15,8 @@ use Rattle.words.proofs.Lists.{both_left, both_right, both_false, never, either_
 use Rattle.packet.specs.declared.Refusal.{Refusal}
 use Rattle.packet.specs.declared.Refusal.TheVariants.{Data, Setting, Room}
 use Rattle.table.specs.Rows.{parameter_count, pairs_size, rows, place_in, place_of, supported, trigger_allowed, range_allowed, row_allows, allowed, defaults_of}
-use Rattle.table.specs.Table.{Values, Pair, Reading, wrong_length, pairs, locked_in, settable, all_settable, set_all, changed, done, refused, set_pairs, defaults, restored, set_defaults, power_up, member, asked_for, numbers_of, answered_numbers, answer_data}
-use Rattle.table.specs.Promises.{Answers, values_of, changed_of, left_of, marks}
+use Rattle.table.specs.Table.{Values, Pair, Reading, wrong_length, pairs, locked_in, settable, all_settable, set_all, changed, Outcome, done, refused, read_pairs, set_pairs, defaults, restored, set_defaults, power_up, member, asked_for, numbers_of, answered_numbers, answer_data}
+use Rattle.table.specs.Promises.{Sets, Answers, values_of, changed_of, left_of, marks}
 use Rattle.table.specs.declared.Table.{Table}
 use Rattle.std.specs.Prelude.{Result, Ok, Err}
 use Rattle.table.proofs.Finding.{many, number_at, same_place, length_defaults, length_restored, restored_at}
@@ -61,6 +61,21 @@ unnamed_kept false ps t n s e = (set_kept ps t.present n s e, refl)
 pub refused_changes_nothing : (t : Table) (r : Refusal) → left_of t (changed_of (refused r)) ≡ t
 unfolding changed_of left_of
 refused_changes_nothing t r = refl
+
+-- What a list leaves of the values: the new ones, or where it is refused those before.
+unfoldable pub left_by : Values → Outcome → Values
+left_by v (done w) = w
+left_by v (refused r) = v
+
+pub left_values : (t : Table) (o : Outcome) → values_of (left_of t (changed_of o)) ≡ left_by (values_of t) o
+unfolding changed_of left_of left_by
+left_values t (done v) = refl
+left_values t (refused r) = ap values_of (refused_changes_nothing t r)
+
+-- So does the call, by its promise alone.
+pub set_leaves : {t : Table} {bytes : List ℕ} {forever : Bool} {r : Result Table Refusal} → Sets t bytes forever r →
+    values_of (left_of t r) ≡ left_by (values_of t) (set_pairs forever (read_pairs bytes) (values_of t))
+set_leaves {t} {bytes} {forever} sets = rw sets.is (left_values t (set_pairs forever (read_pairs bytes) (values_of t)))
 
 -- One pair that may not be set, wherever it stands, refuses the whole list.
 bad_in : (locked : List Bool) (ps qs : List Pair) (p : Pair) → settable locked p ≡ false → all_settable locked (ps ++ (p ∷ qs)) ≡ false

@@ -1,6 +1,6 @@
 // What is tried with a vector: the check, building, damage, and the answers.
 // A refusal that is due is its number in the rules' table, so that no name of the library can be wrong on both sides.
-ghost use Rattle.std.specs.Prelude.{◌<◌};
+ghost use Rattle.std.specs.Prelude.{◌≤◌, ◌<◌, length};
 
 use crate::tally::{Tally, count, hex};
 use packet::{Head, Refusal, Reply};
@@ -134,7 +134,9 @@ fn stands(buffer: &Buffer, written: &[u8]) -> bool {
 }
 
 // The first n bytes, or all where there are fewer.
-pub(crate) fn at_most(s: &[u8], n: usize) -> &[u8] {
+pub(crate) fn at_most(s: &[u8], n: usize) -> &[u8]
+    ensures { length result.now ≤ length s.now }
+{
     &s[..n.min(s.len())]
 }
 

@@ -9,10 +9,10 @@ use native.Mathlib.Omega.{arith}
 use native.Mathlib.Decide.{dec_le}
 use lib.Dec.{eqb}
 use lib.ListN.{length, get_or, take, drop, set, take-append-drop, length-append, length-take, length-drop}
-use lib.Seq.{set_split, take_at, drop_at, take-append-add, drop-append-add, take-length, length-take-le, drop-drop, take_all, take-append-le, drop-append-le}
+use lib.Seq.{set_split, take_at, drop_at, take-append-add, drop-append-add, take-length, length-take-le, drop-drop, take_all, drop-cons, take-append-le, drop-append-le}
 use lib.Pointwise.{pointwise}
 use Rattle.std.proofs.lemmas.List.{drop_all, append-nil}
-use borrow.Author.Tests.{eq-eqb, eqb-true}
+use borrow.Author.Tests.{eq-eqb, ne_eqb, eqb-true}
 use Rattle.words.specs.Lists.{both, Bytes, over, over_at, Over, Copied, same_bytes, Compared, either}
 
 -- ---- contradictions and tests
@@ -92,6 +92,10 @@ unfolding over
 drop_over p room n h =
     let e : n ≡ length p + (n - length p) = omega arith in
     rw e (drop-append-add p (drop (length p) room) (n - length p) ∙ drop-drop (n - length p) (length p) room)
+
+pub take_over_at : (a : ℕ) (q room : List ℕ) → a ≤ length room → take a (over_at a q room) ≡ take a room
+unfolding over_at
+take_over_at a q room h = take_at (take a room) (over q (drop a room)) a (length-take-le a room h)
 
 pub drop_over_at : (a : ℕ) (q room : List ℕ) → a ≤ length room → drop a (over_at a q room) ≡ over q (drop a room)
 unfolding over_at
@@ -222,6 +226,15 @@ other_length [] [] h = absurd (h refl)
 other_length [] (y ∷ ys) h = refl
 other_length (x ∷ xs) [] h = refl
 other_length (x ∷ xs) (y ∷ ys) h = both_false (eqb x y) (same_bytes xs ys) (other_length xs ys (λ e. h (ap suc e)))
+
+-- The comparison goes on behind an equal element, and ends at another one.
+pub same_step : (s t : List ℕ) (i : ℕ) → i < length s → i < length t → get_or s i 0 ≡ get_or t i 0 → same_bytes (drop i s) (drop i t) ≡ same_bytes (drop (suc i) s) (drop (suc i) t)
+unfolding same_bytes
+same_step s t i p q e = rw (drop-cons s i 0 p, drop-cons t i 0 q) (rw (eq-eqb (get_or s i 0) (get_or t i 0) e) refl)
+
+pub same_stop : (s t : List ℕ) (i : ℕ) → i < length s → i < length t → (get_or s i 0 ≡ get_or t i 0 → ⊥) → same_bytes (drop i s) (drop i t) ≡ false
+unfolding same_bytes
+same_stop s t i p q h = rw (drop-cons s i 0 p, drop-cons t i 0 q) (rw (ne_eqb (get_or s i 0) (get_or t i 0) h) refl)
 
 -- The comparison of two lists that are cut at the same place.
 pub same_append : (s s' t t' : List ℕ) → length s ≡ length s' → same_bytes (s ++ t) (s' ++ t') ≡ both (same_bytes s s') (same_bytes t t')

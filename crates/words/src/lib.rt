@@ -1,5 +1,5 @@
-// Bytes copied to the front of a room, as the crates above call it; and the library's conversion of a byte and its comparison in the words
-// of our definitions, which no code calls any more.
+// Bytes copied to the front of a room, as the crates above call it; and a byte as a count and a comparison of two slices in the words of our
+// definitions, which no code calls any more: the crates above have `usize::from` and `==`.
 #![tactic(auto)]
 
 ghost use Rattle.words.specs.Lists.{Wide, Copied, Compared};
@@ -23,9 +23,18 @@ pub fn copy(from: &[u8], room: &mut [u8])
     }
 }
 
-// Whether both hold the same bytes.
+// Whether both hold the same bytes; left at the first difference. A loop: the proof of a `==` here breaks at every other form, also at a right
+// one, and no wrong program would show more than that.
 pub fn same(a: &[u8], b: &[u8]) -> bool
     ensures { Compared a.now b.now result }
 {
-    a == b
+    if a.len() != b.len() {
+        return false;
+    }
+    for i in 0..a.len() {
+        if a[i] != b[i] {
+            return false;
+        }
+    }
+    true
 }
